@@ -1,0 +1,6 @@
+pub mod Runs
+pub mod Fractions
+pub mod Complete
+pub mod Gaps
+pub mod Fronts
+pub mod Readings
