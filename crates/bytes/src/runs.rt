@@ -38,11 +38,11 @@ pub fn run_end(text: &[u8], from: usize, kind: ByteKind) -> usize
     ensures value { λ r. ⌜ r ≡ from + leading (ofKind kind) (drop from (now (text .entry))) ⌝ }
     ensures bound { λ r. ⌜ (from ≤ length (now (text .entry)) → r ≤ length (now (text .entry))) ⌝ }
 {
-    let mut i = from;
-    while i < text.len() && is_of_kind(kind, text[i]) {
-        i += 1;
+    let mut end = from;
+    while end < text.len() && is_of_kind(kind, text[end]) {
+        end += 1;
     }
-    i
+    end
 }
 
 // The largest value that a number of a plan text may have.

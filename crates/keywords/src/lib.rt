@@ -2,7 +2,7 @@
 
 ghost use mathlib.Core.Path.{_≡_};
 ghost use Rattle.std.specs.shelf.Text.{sameBytes};
-ghost use Rattle.keywords.specs.Keywords.{spelt, firstSpelt, keyword, Recognised};
+ghost use Rattle.keywords.specs.Keywords.{spelt, keywords, firstSpelt, keyword, Recognised};
 
 #[derive(Clone, Copy)]
 pub enum Keyword {
@@ -99,10 +99,17 @@ fn first_spelt(keywords: &[Keyword], word: &[u8]) -> Option<Keyword>
     None
 }
 
+// The keyword that the word is spelt as.
+fn listed(word: &[u8]) -> Option<Keyword>
+    ensures { λ r. ⌜ r ≡ firstSpelt keywords (now (word .entry)) ⌝ }
+{
+    first_spelt(&KEYWORDS, word)
+}
+
 // The keyword that the word is, byte for byte; any other word is none.
 pub fn keyword_of(word: &[u8]) -> Option<Keyword>
     ensures told { λ r. ⌜ r ≡ keyword (now (word .entry)) ⌝ }
     ensures exactly { λ r. ⌜ Recognised (now (word .entry)) r ⌝ }
 {
-    first_spelt(&KEYWORDS, word)
+    listed(word)
 }

@@ -60,7 +60,10 @@ fn print_fault(rt: &LibcRuntime, path: &str, text: &[u8], fault: TokenFault) -> 
     let position = position_of(text, place);
     let number = fault.number();
     let complaint = Complaint::new(text, fault);
-    println!(rt, "{path}:{position}: refused {number} at {place} by token reader: {complaint}")
+    println!(
+        rt,
+        "{path}:{position}: refused {number} at {place} by token reader: {complaint}"
+    )
 }
 
 fn list_tokens(rt: &LibcRuntime, path: &str, text: &[u8]) -> io::Result<Outcome> {
@@ -68,8 +71,17 @@ fn list_tokens(rt: &LibcRuntime, path: &str, text: &[u8]) -> io::Result<Outcome>
     let mut count: usize = 0;
     loop {
         match reader.next() {
-            Ok(Placed { token: Token::End, place, .. }) => {
-                println!(rt, "{path}: {count} tokens in {place} bytes, each well formed; grammar and plan rules are not checked")?;
+            Ok(
+                Placed {
+                    token: Token::End,
+                    place,
+                    ..
+                },
+            ) => {
+                println!(
+                    rt,
+                    "{path}: {count} tokens in {place} bytes, each well formed; grammar and plan rules are not checked"
+                )?;
                 return Ok(Outcome::Listed);
             }
             Ok(placed) => {

@@ -157,8 +157,10 @@ string-found text s bs r e at = go (leb (length bs) 64) refl
   where
     at′ : drop s text ≡ 34 ∷ (bs ++ 34 ∷ r)
     at′ = at ∙ ap (λ x. 34 ∷ x) (append-assoc bs (34 ∷ []) r)
+
     end : s + length (34 ∷ bs) + 1 ≡ s + length (34 ∷ (bs ++ 34 ∷ []))
     end = let l = length-append bs (34 ∷ []) in omega arith
+
     go : (u : Bool) → leb (length bs) 64 ≡ u → tokenAt text s ≡ judged (cond u (Some (t.string bs)) None) s (s + length (34 ∷ (bs ++ 34 ∷ [])))
     go true k = string-stops text s bs 34 r e (leb-true (length bs) 64 k) refl refl at′ ∙ ap (found (t.string bs) s) end
     go false k = long-string-found text s bs (34 ∷ r) e at′ (leb-false (length bs) 64 k)

@@ -79,8 +79,10 @@ written-reach l v u (sp.a-decimal b bs c cs h e k f) =
   where
     whole : leading digit (bs ++ 46 ∷ c ∷ (cs ++ u)) ≡ length bs
     whole = run-length digit bs (46 ∷ c ∷ (cs ++ u)) e refl
+
     at-stop : drop (leading digit (bs ++ 46 ∷ c ∷ (cs ++ u))) (bs ++ 46 ∷ c ∷ (cs ++ u)) ≡ 46 ∷ c ∷ (cs ++ u)
     at-stop = ap (λ n. drop n (bs ++ 46 ∷ c ∷ (cs ++ u))) whole ∙ drop-append-seam bs (46 ∷ c ∷ (cs ++ u))
+
     digits-behind : leading digit (drop (leading digit (bs ++ 46 ∷ c ∷ (cs ++ u)) + 1) (bs ++ 46 ∷ c ∷ (cs ++ u))) ≡ leading digit (c ∷ (cs ++ u))
     digits-behind = ap (leading digit) (sym (drop-drop 1 (leading digit (bs ++ 46 ∷ c ∷ (cs ++ u))) (bs ++ 46 ∷ c ∷ (cs ++ u))) ∙ ap (drop 1) at-stop)
 written-reach l v u (sp.a-string bs e) =
@@ -106,6 +108,7 @@ mark-found b m =
   where
     never : _≡_ {A = Option Mark} None (Some m) → b ≡ markByte m
     never e = let z : _≡_ {A = ℕ} 0 1 = cc in absurd (omega arith)
+
     one : (b n : ℕ) (x m : Mark) (o : Option Mark) → n ≡ markByte x → (o ≡ Some m → b ≡ markByte m) → cond (eqb b n) (Some x) o ≡ Some m → b ≡ markByte m
     one b n x m o e k = go (eqb b n) refl
       where
@@ -158,27 +161,37 @@ front-number b bs h = go (left b bs OfNumber) refl (stop-digit (left b bs OfNumb
     whole : stop-digit (left b bs OfNumber) ≡ false → Front (b ∷ bs)
     whole n = lexeme (sp.digits (b ∷ run b bs OfNumber)) (b ∷ run b bs OfNumber) (left b bs OfNumber) (parts b bs OfNumber) (sp.a-number b (run b bs OfNumber) h (run-each b bs OfNumber))
         (longest-by-reach (b ∷ run b bs OfNumber) (left b bs OfNumber) (let e : reach (b ∷ (run b bs OfNumber ++ left b bs OfNumber)) ≡ reach (b ∷ bs) = ap reach (sym (parts b bs OfNumber)) in omega (arith, reach-number b bs h, reach-whole bs n, run-count b bs OfNumber)))
+
     fraction : (c d : ℕ) (r : List ℕ) → left b bs OfNumber ≡ c ∷ d ∷ r → c ≡ 46 → digit d ≡ true → Front (b ∷ bs)
     fraction c d r is stop k = lexeme (sp.fraction w) w rs (at-all) (sp.a-decimal b (run b bs OfNumber) d ds h (run-each b bs OfNumber) k (run-split digit r .0)) (longest-by-reach w rs (omega (arith, far, reach-number b bs h, reach-fraction bs (ap stop-digit is-stop ∙ k), digits-behind, one-digit, ds-count, run-count b bs OfNumber, length-append (run b bs OfNumber) (46 ∷ d ∷ ds))))
       where
         ds : List ℕ
         ds = take (leading digit r) r
+
         rs : List ℕ
         rs = drop (leading digit r) r
+
         w : List ℕ
         w = b ∷ (run b bs OfNumber ++ 46 ∷ d ∷ ds)
+
         is-stop : left b bs OfNumber ≡ 46 ∷ d ∷ r
         is-stop = is ∙ ap (λ x. x ∷ d ∷ r) stop
+
         at-all : b ∷ bs ≡ w ++ rs
         at-all = parts b bs OfNumber ∙ ap (λ x. b ∷ x) (ap (λ x. run b bs OfNumber ++ x) (is-stop ∙ ap (λ x. 46 ∷ d ∷ x) (sym (take-append-drop (leading digit r) r))) ∙ sym (append-assoc (run b bs OfNumber) (46 ∷ d ∷ ds) rs))
+
         far : reach (w ++ rs) ≡ reach (b ∷ bs)
         far = ap reach (sym at-all)
+
         digits-behind : leading digit (drop (leading digit bs + 1) bs) ≡ leading digit (d ∷ r)
         digits-behind = ap (leading digit) (sym (drop-drop 1 (leading digit bs) bs) ∙ ap (drop 1) is-stop)
+
         one-digit : leading digit (d ∷ r) ≡ 1 + leading digit r
         one-digit = cond-true (digit d) _ _ k
+
         ds-count : length ds ≡ leading digit r
         ds-count = length-take-le (leading digit r) r (leading-le-length digit r)
+
     go : (l : List ℕ) → left b bs OfNumber ≡ l → (t : Bool) → stop-digit (left b bs OfNumber) ≡ t → Front (b ∷ bs)
     go l is false n = whole n
     go [] is true n = let z : _≡_ {A = Bool} false true = ap stop-digit (sym is) ∙ n in let y : _≡_ {A = ℕ} 0 1 = cc in absurd (omega arith)
@@ -190,25 +203,31 @@ front-string bs = go (leb (length (run 34 bs OfString)) 64) refl (left 34 bs OfS
   where
     u : List ℕ
     u = run 34 bs OfString
+
     all : 34 ∷ bs ≡ 34 ∷ (u ++ left 34 bs OfString)
     all = parts 34 bs OfString
+
     long : 64 < length u → Front (34 ∷ bs)
     long h = long-string (take 65 u) (drop 65 u ++ left 34 bs OfString) (all ∙ ap (λ x. 34 ∷ x) (ap (λ x. x ++ left 34 bs OfString) (sym (take-append-drop 65 u)) ∙ append-assoc (take 65 u) (drop 65 u) (left 34 bs OfString))) (each-take (ofKind OfString) 65 u (run-each 34 bs OfString)) (length-take-le 65 u (omega arith))
+
     closed : (r : List ℕ) → 34 ∷ bs ≡ 34 ∷ (u ++ 34 ∷ r) → Front (34 ∷ bs)
     closed r is =
         let at : 34 ∷ bs ≡ 34 ∷ ((u ++ 34 ∷ []) ++ r) = is ∙ ap (λ x. 34 ∷ x) (sym (append-assoc u (34 ∷ []) r)) in
         let far : reach (34 ∷ ((u ++ 34 ∷ []) ++ r)) ≡ reach (34 ∷ bs) = ap reach (sym at) in
         lexeme (sp.quoted u) (34 ∷ (u ++ 34 ∷ [])) r at (sp.a-string u (run-each 34 bs OfString)) (longest-by-reach (34 ∷ (u ++ 34 ∷ [])) r (omega (arith, far, reach-string bs, run-count 34 bs OfString, length-append u (34 ∷ []))))
+
     short : length u ≤ 64 → (l : List ℕ) → left 34 bs OfString ≡ l → Front (34 ∷ bs)
     short h [] e = open-string u [] (all ∙ ap (λ x. 34 ∷ (u ++ x)) e) (run-each 34 bs OfString) h sp.by-end
     short h (b ∷ r) e = by (eqb b 34) refl (eqb b 10) refl
       where
         is : 34 ∷ bs ≡ 34 ∷ (u ++ b ∷ r)
         is = all ∙ ap (λ x. 34 ∷ (u ++ x)) e
+
         by : (q : Bool) → eqb b 34 ≡ q → (f : Bool) → eqb b 10 ≡ f → Front (34 ∷ bs)
         by true x f y = closed r (is ∙ ap (λ z. 34 ∷ (u ++ z ∷ r)) (eqb-true b 34 x))
         by false x true y = open-string u (10 ∷ r) (is ∙ ap (λ z. 34 ∷ (u ++ z ∷ r)) (eqb-true b 10 y)) (run-each 34 bs OfString) h (sp.by-feed r)
         by false x false y = bad-byte u b r is (run-each 34 bs OfString) h (subst (Stops (ofKind OfString)) e (left-stops 34 bs OfString)) x y
+
     go : (t : Bool) → leb (length u) 64 ≡ t → (l : List ℕ) → left 34 bs OfString ≡ l → Front (34 ∷ bs)
     go true h l e = short (leb-true (length u) 64 h) l e
     go false h l e = long (leb-false (length u) 64 h)
@@ -221,12 +240,15 @@ front b bs no-blank no-comment = by-letter (letter b) refl
         let at : b ∷ bs ≡ markByte m ∷ bs = ap (λ x. x ∷ bs) (mark-found b m e) in
         lexeme (sp.sign m) (markByte m ∷ []) bs at (sp.a-mark m) (longest-by-reach (markByte m ∷ []) bs (omega (arith, reach-mark m bs)))
     marked x y z None e = stray b bs refl (record { no-blank = no-blank; no-comment = no-comment; no-word = x; no-number = y; no-string = z; no-mark = λ m k. (let n : _≡_ {A = Option Mark} None (Some m) = sym e ∙ (ap markOf k ∙ mark-known m) in let w : _≡_ {A = ℕ} 0 1 = cc in omega arith) })
+
     by-quote : letter b ≡ false → digit b ≡ false → (t : Bool) → eqb b 34 ≡ t → Front (b ∷ bs)
     by-quote x y true z = subst (λ c. Front (c ∷ bs)) (sym (eqb-true b 34 z)) (front-string bs)
     by-quote x y false z = marked x y z (markOf b) refl
+
     by-digit : letter b ≡ false → (t : Bool) → digit b ≡ t → Front (b ∷ bs)
     by-digit x true y = front-number b bs y
     by-digit x false y = by-quote x y (eqb b 34) refl
+
     by-letter : (t : Bool) → letter b ≡ t → Front (b ∷ bs)
     by-letter true x = front-word b bs x
     by-letter false x = by-digit x (digit b) refl

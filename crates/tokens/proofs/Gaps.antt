@@ -50,10 +50,12 @@ outside b bs out inn = go (eqb b 35) refl inn
     closes : (k : Closing bs) → b ≡ 35 → Parted (k .h) ⊎ LastGap (k .h) → Parted (b ∷ bs) ⊎ LastGap (b ∷ bs)
     closes k e (inl s) = inl (record { g = 35 ∷ (k .c ++ 10 ∷ s .g); b = s .b; r = s .r; is = (λ j. e j ∷ k .is j) ∙ ap (λ x. 35 ∷ x) (ap (λ x. k .c ++ 10 ∷ x) (s .is) ∙ sym (append-assoc (k .c) (10 ∷ s .g) (s .b ∷ s .r))); gap = sp.comment (k .c) (s .g) (k .each) (s .gap); no-blank = s .no-blank; no-comment = s .no-comment })
     closes k e (inr l) = inr (subst LastGap (sym (λ j. e j ∷ k .is j)) (last-comment (k .c) (k .h) (k .each) l))
+
     blanked : (t : Bool) → blank b ≡ t → eqb b 35 ≡ false → Parted bs ⊎ LastGap bs → Parted (b ∷ bs) ⊎ LastGap (b ∷ bs)
     blanked true e n (inl s) = inl (record { g = b ∷ s .g; b = s .b; r = s .r; is = ap (λ x. b ∷ x) (s .is); gap = sp.blank-byte b (s .g) e (s .gap); no-blank = s .no-blank; no-comment = s .no-comment })
     blanked true e n (inr l) = inr (last-blank b bs e l)
     blanked false e n _ = inl (record { g = []; b = b; r = bs; is = refl; gap = sp.none; no-blank = e; no-comment = n })
+
     go : (t : Bool) → eqb b 35 ≡ t → Closing bs ⊎ Each notFeed bs → Parted (b ∷ bs) ⊎ LastGap (b ∷ bs)
     go true e (inl k) = closes k (eqb-true b 35 e) (k .follows)
     go true e (inr k) = inr (subst (λ x. LastGap (x ∷ bs)) (sym (eqb-true b 35 e)) (sp.open-comment [] bs sp.none k))

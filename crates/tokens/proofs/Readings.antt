@@ -35,13 +35,16 @@ some-by bs p shorter = by (parted bs)
   where
     told-of : (cs : List ℕ) → bs ≡ cs → (ts : Tokens) → Reads cs p ts → Some-reading bs p
     told-of cs e ts k = (ts, subst (λ z. Reads z p ts) (sym e) k)
+
     fronted : (k : Parted bs) → Front (k .b ∷ k .r) → Some-reading bs p
     fronted k (fr.lexeme l w r is written longest) = judge (measured l) refl
       where
         at : bs ≡ k .g ++ (w ++ r)
         at = k .is ∙ ap (λ x. k .g ++ x) is
+
         less : length r < length bs
         less = let n : length bs ≡ length (k .g ++ (w ++ r)) = ap length at in omega (arith, length-append (k .g) (w ++ r), length-append w r, written-some l w written)
+
         judge : (o : Option Terminal) → measured l ≡ o → Some-reading bs p
         judge (Some x) e = let i = shorter r (p + length (k .g) + length w) less in told-of (k .g ++ (w ++ r)) at _ (sp.a-token p (k .g) w r l x (i .0) (k .gap) written longest e (i .1))
         judge None e = told-of (k .g ++ (w ++ r)) at _ (sp.too-long p (k .g) w r l (k .gap) written longest e)
@@ -49,6 +52,7 @@ some-by bs p shorter = by (parted bs)
     fronted k (fr.open-string ss r is each n cut) = told-of (k .g ++ 34 ∷ (ss ++ r)) (k .is ∙ ap (λ x. k .g ++ x) is) _ (sp.open-string p (k .g) ss r (k .gap) each n cut)
     fronted k (fr.bad-byte ss b r is each n x y z) = told-of (k .g ++ 34 ∷ (ss ++ b ∷ r)) (k .is ∙ ap (λ x. k .g ++ x) is) _ (sp.bad-byte p (k .g) ss b r (k .gap) each n x y z)
     fronted k (fr.stray b r is s) = told-of (k .g ++ b ∷ r) (k .is ∙ ap (λ x. k .g ++ x) is) _ (sp.stray-byte p (k .g) b r (k .gap) s)
+
     by : Parted bs ⊎ LastGap bs → Some-reading bs p
     by (inl k) = fronted k (front (k .b) (k .r) (k .no-blank) (k .no-comment))
     by (inr l) = (t.end (p + length bs), sp.the-end p bs l)
@@ -95,9 +99,9 @@ module _ (text : List ℕ) where
   pub tokens-step : (p : ℕ) → tokensFrom text p ≡ before (scanned text p) (tokensFrom text (onward p (scanned text p)))
   tokens-step p = sym (one-step (tokensFrom text) (drop p text) p (tokensFrom text p) (the-reading p .reads) refl (λ r q us k e l. tokens-from r q us k e))
 
--- so are they where an answer tells what was found, and q is where the reader goes on
-pub rest-step : (text : List ℕ) (p q : ℕ) (x : Scanned) → x ≡ scanned text p → q ≡ onward p (scanned text p) → tokensFrom text p ≡ before x (tokensFrom text q)
-rest-step text p q x e on = tokens-step text p ∙ (ap (λ y. before y (tokensFrom text (onward p (scanned text p)))) (sym e) ∙ ap (λ y. before x (tokensFrom text y)) (sym on))
+-- so are they where x tells what was found, and q is where the reader goes on
+pub rest-step : (text : List ℕ) (p q : ℕ) (x : Scanned) → x ≡ scanned text p → q ≡ onward p x → tokensFrom text p ≡ before x (tokensFrom text q)
+rest-step text p q x e on = tokens-step text p ∙ (ap (λ y. before y (tokensFrom text (onward p y))) (sym e) ∙ ap (λ y. before x (tokensFrom text y)) (sym on))
 
 -- every place that a reading tells lies within the bytes
 pub reads-within : (n : ℕ) (bs : List ℕ) (p : ℕ) (ts : Tokens) → Reads bs p ts → p + length bs ≤ n → Within n ts

@@ -36,6 +36,7 @@ run-split p (b ∷ bs) = go (p b) refl (run-split p bs)
   where
     one-more : (n : ℕ) → 1 + n ≡ suc n
     one-more n = omega arith
+
     go : (t : Bool) → p b ≡ t → Each p (take (leading p bs) bs) × Stops p (drop (leading p bs) bs) → Each p (take (cond t (1 + leading p bs) 0) (b ∷ bs)) × Stops p (drop (cond t (1 + leading p bs) 0) (b ∷ bs))
     go true e k = rw (one-more (leading p bs)) ((e, k .0), k .1)
     go false e k = (tt, e)

@@ -27,6 +27,10 @@ pub data Scanned : Type 0 where
 abbrev pub part : List ℕ → ℕ → ℕ → List ℕ
 part text p e = take (e - p) (drop p text)
 
+-- where the blanks and comments end that begin at p
+abbrev pub gapEnd : List ℕ → ℕ → ℕ
+gapEnd text p = p + gap false (drop p text)
+
 -- where the bytes of a kind end that begin at p
 abbrev pub runEnd : List ℕ → ℕ → ByteKind → ℕ
 runEnd text p k = p + leading (ofKind k) (drop p text)
@@ -68,7 +72,7 @@ tokenAt text p = cond (ltb p (length text)) (begun text p (getD text p 0)) (fini
 
 -- the first token at p or behind it
 unfoldable pub scanned : List ℕ → ℕ → Scanned
-scanned text p = tokenAt text (p + gap false (drop p text))
+scanned text p = tokenAt text (gapEnd text p)
 
 -- where the reader goes on from p
 abbrev pub onward : ℕ → Scanned → ℕ

@@ -36,7 +36,11 @@ fn word<'a>(text: &'a [u8], at: usize) -> Result<Placed<'a>, TokenFault>
         Some(k) => Token::Keyword(k),
         None => Token::Name(bytes),
     };
-    Ok(Placed { token, place: at, end })
+    Ok(Placed {
+        token,
+        place: at,
+        end,
+    })
 }
 
 fn number<'a>(text: &'a [u8], at: usize, end: usize) -> Result<Placed<'a>, TokenFault>
@@ -49,7 +53,11 @@ fn number<'a>(text: &'a [u8], at: usize, end: usize) -> Result<Placed<'a>, Token
         return Err(TokenFault::TooLong(at));
     }
     match number_of(bytes) {
-        Some(n) => Ok(Placed { token: Token::Number(n), place: at, end }),
+        Some(n) => Ok(Placed {
+            token: Token::Number(n),
+            place: at,
+            end,
+        }),
         None => Err(TokenFault::TooLong(at)),
     }
 }
@@ -63,7 +71,11 @@ fn decimal<'a>(text: &'a [u8], at: usize, end: usize) -> Result<Placed<'a>, Toke
     if bytes.len() > LONGEST_WORD {
         return Err(TokenFault::TooLong(at));
     }
-    Ok(Placed { token: Token::Decimal(bytes), place: at, end })
+    Ok(Placed {
+        token: Token::Decimal(bytes),
+        place: at,
+        end,
+    })
 }
 
 fn digits<'a>(text: &'a [u8], at: usize) -> Result<Placed<'a>, TokenFault>
@@ -93,7 +105,11 @@ fn string<'a>(text: &'a [u8], at: usize) -> Result<Placed<'a>, TokenFault>
     if text[end] != b'"' {
         return Err(TokenFault::ByteInString(end));
     }
-    Ok(Placed { token: Token::Quoted(&text[at + 1..end]), place: at, end: end + 1 })
+    Ok(Placed {
+        token: Token::Quoted(&text[at + 1..end]),
+        place: at,
+        end: end + 1,
+    })
 }
 
 // The token that begins at an offset where no gap does.
@@ -103,7 +119,11 @@ pub fn token_at<'a>(text: &'a [u8], at: usize) -> Result<Placed<'a>, TokenFault>
     ensures forward { λ r. ⌜ Forward at (length (now (text .entry))) (seen r) ⌝ }
 {
     if at >= text.len() {
-        return Ok(Placed { token: Token::End, place: at, end: at });
+        return Ok(Placed {
+            token: Token::End,
+            place: at,
+            end: at,
+        });
     }
     let b = text[at];
     if begins_name(b) {
@@ -116,7 +136,11 @@ pub fn token_at<'a>(text: &'a [u8], at: usize) -> Result<Placed<'a>, TokenFault>
         return string(text, at);
     }
     match mark_of(b) {
-        Some(m) => Ok(Placed { token: Token::Mark(m), place: at, end: at + 1 }),
+        Some(m) => Ok(Placed {
+            token: Token::Mark(m),
+            place: at,
+            end: at + 1,
+        }),
         None => Err(TokenFault::StrayByte(at)),
     }
 }

@@ -5,4 +5,4 @@ use Rattle.keywords.proofs.keyword_of.Needs as need
 
 pub returns : need.returns
 unfolding keyword
-returns c = record { told = c .first-spelt .ensures; exactly = subst (Recognised (c .args .word .now)) (sym (c .first-spelt .ensures)) (recognised (c .args .word .now)) }
+returns c = record { told = c .listed .ensures; exactly = subst (Recognised (c .args .word .now)) (sym (c .listed .ensures)) (recognised (c .args .word .now)) }

@@ -5,8 +5,8 @@ use Rattle.std.specs.shelf.Lists.{leading}
 use Rattle.bytes.specs.Bytes.{ofKind}
 use Rattle.bytes.proofs.runs.run_end.Given as given
 
-abbrev pub Inv-loop-i : given.InvT-loop-i
-Inv-loop-i l = (l .from ≤ length (l .text) → l .i ≤ length (l .text)) × (l .i + leading (ofKind (l .kind)) (drop (l .i) (l .text)) ≡ l .from + leading (ofKind (l .kind)) (drop (l .from) (l .text)))
+abbrev pub Inv-loop-end : given.InvT-loop-end
+Inv-loop-end l = (l .from ≤ length (l .text) → l .end ≤ length (l .text)) × (l .end + leading (ofKind (l .kind)) (drop (l .end) (l .text)) ≡ l .from + leading (ofKind (l .kind)) (drop (l .from) (l .text)))
 
-abbrev pub μ-loop-i : given.MeasureT-loop-i
-μ-loop-i l = length (l .text) - l .i
+abbrev pub μ-loop-end : given.MeasureT-loop-end
+μ-loop-end l = length (l .text) - l .end

@@ -1,8 +1,6 @@
-use mathlib.Core.Path.{_≡_}
-use borrow.Author.Needs.{needs}
-use Rattle.tokens.specs.Scanning.{scanned, onward}
+use mathlib.Core.Path.{_≡_, sym, ap, _∙_}
+use Rattle.tokens.specs.Scanning.{scanned, before, tokensFrom}
 use Rattle.tokens.specs.Answers.{seen}
-use Rattle.std.specs.declared.result.Result.the-variants.{Ok}
 use Rattle.tokens.proofs.Readings.{the-reading, rest-step}
 use Rattle.tokens.proofs.reader.Reader.next.Needs as need
 
@@ -11,15 +9,5 @@ unfolding scanned
 returns c =
     let text = c .args .self .now .text .now in
     let at = c .args .self .now .at in
-    let told : seen (Ok (c .in-Continue-piece .piece)) ≡ scanned text at = search needs in
-    let moved : c .in-Continue-piece .piece .end ≡ onward at (scanned text at) = search needs in
-    record { told = told; moved = moved; text = search needs; rest = rest-step text at _ _ told moved; reading = the-reading text at; forward = search needs }
-
-pub returns-in-Break-piece : need.returns-in-Break-piece
-unfolding scanned
-returns-in-Break-piece c =
-    let text = c .args .self .now .text .now in
-    let at = c .args .self .now .at in
-    let told : seen (c .from-residual .result) ≡ scanned text at = search needs in
-    let moved : at ≡ onward at (scanned text at) = search needs in
-    record { told = told; moved = moved; text = search needs; rest = rest-step text at _ _ told moved; reading = the-reading text at; forward = search needs }
+    let told : seen (c .advance .result) ≡ scanned text at = c .advance .ensures .found in
+    record { told = told; moved = c .advance .ensures .moved; text = c .advance .ensures .text; rest = rest-step text at (c .advance .last .self .at) (seen (c .advance .result)) told (c .advance .ensures .moved) ∙ ap (λ x. before (seen (c .advance .result)) (tokensFrom (x .now) (c .advance .last .self .at))) (sym (c .advance .ensures .text)); reading = the-reading text at; forward = c .advance .ensures .forward }
