@@ -38,6 +38,10 @@ markByte Equals = 61
 markByte FullStop = 46
 markByte Minus = 45
 
+-- whether two marks are the same
+abbrev pub sameMark : Mark → Mark → Bool
+sameMark a b = eqb (markByte a) (markByte b)
+
 abbrev pub markOf : ℕ → Option Mark
 markOf b =
     cond (eqb b 123) (Some OpenBrace) (cond (eqb b 125) (Some CloseBrace) (cond (eqb b 59) (Some Semicolon) (cond (eqb b 58) (Some Colon) (cond (eqb b 44) (Some Comma) (cond (eqb b 61) (Some Equals) (cond (eqb b 46) (Some FullStop) (cond (eqb b 45) (Some Minus) None)))))))

@@ -1,7 +1,7 @@
 // The kinds of bytes that tokens, blanks and comments are made of.
 
 ghost use mathlib.Core.Path.{_≡_};
-ghost use Rattle.bytes.specs.Bytes.{blank, letter, digit, ofKind, markOf};
+ghost use Rattle.bytes.specs.Bytes.{blank, letter, digit, ofKind, markByte, sameMark, markOf};
 
 #[derive(Clone, Copy)]
 pub enum Mark {
@@ -13,6 +13,29 @@ pub enum Mark {
     Equals,
     FullStop,
     Minus,
+}
+
+fn byte_of(m: Mark) -> u8
+    ensures { λ r. ⌜ r ≡ markByte m ⌝ }
+{
+    match m {
+        Mark::OpenBrace => b'{',
+        Mark::CloseBrace => b'}',
+        Mark::Semicolon => b';',
+        Mark::Colon => b':',
+        Mark::Comma => b',',
+        Mark::Equals => b'=',
+        Mark::FullStop => b'.',
+        Mark::Minus => b'-',
+    }
+}
+
+pub impl PartialEq<Mark> for Mark as MarkPartialEq {
+    ghost equals = { λ a b r. r ≡ sameMark a b };
+
+    fn eq(&self, other: &Mark) -> bool {
+        byte_of(*self) == byte_of(*other)
+    }
 }
 
 // What a run of bytes inside a token is made of: the bytes of a name, of a number, of a string.

@@ -6,6 +6,7 @@ mod runs;
 
 pub use kinds::ByteKind;
 pub use kinds::Mark;
+pub use kinds::MarkPartialEq;
 pub use kinds::begins_name;
 pub use kinds::is_digit;
 pub use kinds::mark_of;
@@ -15,3 +16,4 @@ pub use position::position_of;
 pub use runs::gap_end;
 pub use runs::number_of;
 pub use runs::run_end;
+pub use runs::same_bytes;

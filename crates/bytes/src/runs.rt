@@ -5,10 +5,17 @@ ghost use mathlib.Core.Bool.{false};
 ghost use Prim.Native.Nat.{ℕ, _+_, _≤_};
 ghost use lib.ListN.{length, drop};
 ghost use Rattle.std.specs.shelf.Lists.{leading};
+ghost use Rattle.std.specs.shelf.Text.{sameBytes};
 ghost use Rattle.bytes.specs.Bytes.{ofKind, gap, number};
 use crate::kinds::ByteKind;
 use crate::kinds::is_blank;
 use crate::kinds::is_of_kind;
+
+pub fn same_bytes(a: &[u8], b: &[u8]) -> bool
+    ensures { λ r. ⌜ r ≡ sameBytes (now (a .entry)) (now (b .entry)) ⌝ }
+{
+    a == b
+}
 
 // Where the blanks and comments that begin at `from` end. A comment ends behind its line feed.
 pub fn gap_end(text: &[u8], from: usize) -> usize

@@ -4,6 +4,7 @@ use mathlib.Core.List.{List, [], _∷_}
 use mathlib.Core.Path.{_≡_}
 use Prim.Native.Nat.{ℕ}
 use lib.Chars.{codes}
+use lib.Dec.{eqb}
 use Rattle.std.specs.shelf.Text.{sameBytes}
 use Rattle.std.specs.declared.option.Option.{Option}
 use Rattle.std.specs.declared.option.Option.the-variants.{Some, None}
@@ -47,3 +48,30 @@ firstSpelt (k ∷ ks) word = cond (sameBytes word (spelt k)) (Some k) (firstSpel
 -- the keyword that the word is, or none
 unfoldable pub keyword : List ℕ → Option Keyword
 keyword word = firstSpelt keywords word
+
+-- the keyword's place in the list of them all
+abbrev pub rank : Keyword → ℕ
+rank Version = 0
+rank TestPlan = 1
+rank BinDefs = 2
+rank BinGroup = 3
+rank Bin = 4
+rank LeafBin = 5
+rank SortBinGroup = 6
+rank Counters = 7
+rank Test = 8
+rank Flow = 9
+rank FlowItem = 10
+rank Result = 11
+rank Property = 12
+rank PassFail = 13
+rank IncrementCounters = 14
+rank SetBin = 15
+rank GoTo = 16
+rank Return = 17
+rank FlowDefs = 18
+rank MainFlow = 19
+
+-- whether two keywords are the same
+abbrev pub sameKeyword : Keyword → Keyword → Bool
+sameKeyword a b = eqb (rank a) (rank b)

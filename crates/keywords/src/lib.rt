@@ -1,8 +1,8 @@
 //! The twenty keywords of a plan text, and the one function that tells a word from them.
 
 ghost use mathlib.Core.Path.{_≡_};
-ghost use Rattle.std.specs.shelf.Text.{sameBytes};
-ghost use Rattle.keywords.specs.Keywords.{spelt, keywords, firstSpelt, keyword, Recognised};
+ghost use Rattle.keywords.specs.Keywords.{spelt, keywords, firstSpelt, keyword, Recognised, sameKeyword};
+use bytes::same_bytes;
 
 #[derive(Clone, Copy)]
 pub enum Keyword {
@@ -81,10 +81,12 @@ impl Keyword {
     }
 }
 
-fn same_bytes(a: &[u8], b: &[u8]) -> bool
-    ensures { λ r. ⌜ r ≡ sameBytes (now (a .entry)) (now (b .entry)) ⌝ }
-{
-    a == b
+pub impl PartialEq<Keyword> for Keyword as KeywordPartialEq {
+    ghost equals = { λ a b r. r ≡ sameKeyword a b };
+
+    fn eq(&self, other: &Keyword) -> bool {
+        *self as u8 == *other as u8
+    }
 }
 
 // The first of the keywords whose spelling the word is.
