@@ -2,14 +2,11 @@
 use mathlib.Core.Bool.{Bool, true, false, cond}
 use mathlib.Core.List.{List, [], _∷_}
 use Prim.Native.Nat.{ℕ, _+_}
-use lib.ListN.{drop, take}
 use Rattle.std.specs.shelf.Text.{sameBytes}
 use Rattle.std.specs.declared.option.Option.{Option}
 use Rattle.std.specs.declared.option.Option.the-variants.{Some, None}
 use Rattle.plan.specs.declared.rows.Name.{Name}
-
-abbrev pub bytesOf : List ℕ → Name → List ℕ
-bytesOf text name = take (name .len) (drop (name .place) text)
+use Rattle.plan.specs.Rules.{spelt}
 
 -- whether two names are the same
 abbrev pub sameName : List ℕ → List ℕ → Bool
@@ -18,7 +15,7 @@ sameName a b = sameBytes a b
 -- the number of the first row from n on that has this name
 abbrev pub foundFrom : {R : Type 0} → ℕ → (R → Name) → List ℕ → List R → List ℕ → Option ℕ
 foundFrom n named text [] word = None
-foundFrom n named text (row ∷ rows) word = cond (sameName (bytesOf text (named row)) word) (Some n) (foundFrom (n + 1) named text rows word)
+foundFrom n named text (row ∷ rows) word = cond (sameName (spelt text (named row)) word) (Some n) (foundFrom (n + 1) named text rows word)
 
 -- the number of the first row that has this name
 abbrev pub found : {R : Type 0} → (R → Name) → List ℕ → List R → List ℕ → Option ℕ

@@ -1,14 +1,15 @@
 // The row that a word names.
 
 ghost use mathlib.Core.Path.{_≡_};
-ghost use Rattle.names.specs.Names.{bytesOf, sameName, found};
+ghost use Rattle.plan.specs.Rules.{spelt};
+ghost use Rattle.names.specs.Names.{sameName, found};
 use crate::named::Named;
-use crate::part::part_of;
 use bytes::same_bytes;
+use plan::part_of;
 
 // Whether the row has this word as its name. When two names are equal is decided here and nowhere else.
 fn has_name<T: Named>(row: &T, text: &[u8], word: &[u8]) -> bool
-    ensures { λ r. ⌜ r ≡ sameName (bytesOf (now (text .entry)) (named (now (row .entry)))) (now (word .entry)) ⌝ }
+    ensures { λ r. ⌜ r ≡ sameName (spelt (now (text .entry)) (named (now (row .entry)))) (now (word .entry)) ⌝ }
 {
     same_bytes(part_of(text, row.name()), word)
 }

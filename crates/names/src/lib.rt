@@ -2,7 +2,6 @@
 
 mod finding;
 mod named;
-mod part;
 
 pub use finding::find;
 pub use named::BinNamed;
@@ -12,4 +11,3 @@ pub use named::GroupNamed;
 pub use named::ItemNamed;
 pub use named::Named;
 pub use named::TestNamed;
-pub use part::part_of;

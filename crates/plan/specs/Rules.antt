@@ -206,13 +206,12 @@ Keeps m = (m ≡ nothing) ⊎ Lawful m
 abbrev pub spelt : List ℕ → Name → List ℕ
 spelt text n = take (n .len) (drop (n .place) text)
 
--- the names of groups, bins, counters, tests and flows together
-abbrev pub declaredNames : List ℕ → Draft → List (List ℕ)
-declaredNames text d = map (λ g. spelt text (g .name)) (d .groups) ++ (map (λ b. spelt text (b .name)) (d .bins) ++ (map (λ k. spelt text (k .name)) (d .counters) ++ (map (λ t. spelt text (t .name)) (d .tests) ++ map (λ f. spelt text (f .name)) (d .flows))))
-
--- no name is declared twice, and no two items of a flow have one name
+-- a name is declared once among groups, among bins, among counters, among tests and flows together, and among the items of a flow
 pub record NamesOnce (text : List ℕ) (d : Draft) : Type 0 where
-  pub declared : Once (declaredNames text d)
+  pub groups : Once (map (λ g. spelt text (g .name)) (d .groups))
+  pub bins : Once (map (λ b. spelt text (b .name)) (d .bins))
+  pub counters : Once (map (λ k. spelt text (k .name)) (d .counters))
+  pub testsAndFlows : Once (map (λ t. spelt text (t .name)) (d .tests) ++ map (λ f. spelt text (f .name)) (d .flows))
   pub items : (k : ℕ) (f : Flow) → nth (d .flows) k ≡ Some f → Once (map (λ it. spelt text (it .name)) (rowsOf (f .items) (d .items)))
 
 -- each flow's row tells its depth

@@ -1,10 +1,13 @@
 //! A test plan as tables of rows, and the rules that it keeps.
 
+mod parts;
 mod plan;
 mod rows;
 mod tables;
 mod values;
 
+pub use parts::part_of;
+pub use plan::MOST_BYTES;
 pub use plan::Plan;
 pub use rows::Bin;
 pub use rows::Clause;

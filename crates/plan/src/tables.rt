@@ -12,6 +12,7 @@ use crate::rows::Test;
 use crate::rows::Value;
 
 mod filling;
+mod making;
 
 // The most rows of each table.
 pub const MOST_GROUPS: usize = 16;

@@ -1,8 +1,9 @@
 -- The turns of a repetition, for loops that make them.
 use mathlib.Core.Bool.{Bool, true, false, cond}
 use mathlib.Core.Path.{_≡_, refl, sym, ap, _∙_}
-use Prim.Native.Nat.{ℕ, zero, suc, _<_}
+use Prim.Native.Nat.{ℕ, zero, suc, _+_, _<_, _≤_}
 use native.Mathlib.Omega.{arith}
+use Rattle.std.proofs.shelf.Tests.{true≢false, false≢true}
 use Rattle.std.specs.declared.result.Result.{Result}
 use Rattle.std.specs.declared.result.Result.the-variants.{Ok, Err}
 use Rattle.tokens.specs.Terminals.{Tokens, count}
@@ -47,3 +48,14 @@ module _ {S : Type 0} (turn : S → Tokens → Loaded (Bool × S)) where
     -- a fault in a turn
     pub stops : (h : Going turn s ts whole) (x : LoadFault) → turn s ts ≡ Err x → Err x ≡ whole
     stops h x e = came h (Err x) e .2
+
+    -- a turn of a loop as the code tells it, in a repetition that began with n tokens: whether another follows, and
+    -- that a token is taken where one does
+    pub turned : {n : ℕ} → Going turn s ts whole × (count ts ≤ n) → (more : Bool) {t : S} {us : Tokens} → Ok ((more, t), us) ≡ turn s ts → count us + cond more 1 0 ≤ count ts → more ≡ true → Going turn t us whole × (count us ≤ n)
+    turned h true {t} {us} told on e = (goes-on (h .0) t us (sym told) (omega arith), omega (arith, h .1))
+    turned h false told on e = absurd (false≢true e)
+
+    -- the last of them
+    pub settled : {n : ℕ} → Going turn s ts whole × (count ts ≤ n) → (more : Bool) {t : S} {us : Tokens} → Ok ((more, t), us) ≡ turn s ts → count us + cond more 1 0 ≤ count ts → more ≡ false → (Ok (t, us) ≡ whole) × (count us ≤ n)
+    settled h true told on e = absurd (true≢false e)
+    settled h false {t} {us} told on e = (ends (h .0) t us (sym told), omega (arith, h .1))

@@ -6,15 +6,16 @@ use lib.ListN.{length, getD, drop}
 use Rattle.std.proofs.shelf.Lists.{at-drop-more, at-drop-all}
 use Rattle.std.specs.declared.option.Option.the-variants.{Some, None}
 use Rattle.plan.specs.declared.rows.Name.{Name}
-use Rattle.names.specs.Names.{bytesOf, sameName, foundFrom}
+use Rattle.plan.specs.Rules.{spelt}
+use Rattle.names.specs.Names.{sameName, foundFrom}
 use Rattle.names.proofs.finding.find.Needs as need
 
 module _ {R : Type 0} (named : R → Name) (text : List ℕ) (rows : List R) (i : ℕ) (word : List ℕ) where
   -- the row at i is looked at
-  looked : (row : R) (t : Bool) → i < length rows → row ≡ getD rows i row → t ≡ sameName (bytesOf text (named row)) word → foundFrom i named text (drop i rows) word ≡ cond t (Some i) (foundFrom (i + 1) named text (drop (i + 1) rows) word)
+  looked : (row : R) (t : Bool) → i < length rows → row ≡ getD rows i row → t ≡ sameName (spelt text (named row)) word → foundFrom i named text (drop i rows) word ≡ cond t (Some i) (foundFrom (i + 1) named text (drop (i + 1) rows) word)
   looked row t h is test =
       at-drop-more (λ l. foundFrom i named text l word) rows i row h
-      ∙ ap (λ b. cond b (Some i) (foundFrom (i + 1) named text (drop (i + 1) rows) word)) (ap (λ x. sameName (bytesOf text (named x)) word) (sym is) ∙ sym test)
+      ∙ ap (λ b. cond b (Some i) (foundFrom (i + 1) named text (drop (i + 1) rows) word)) (ap (λ x. sameName (spelt text (named x)) word) (sym is) ∙ sym test)
 
   none-left : length rows ≤ i → foundFrom i named text (drop i rows) word ≡ None
   none-left h = at-drop-all (λ l. foundFrom i named text l word) rows i h

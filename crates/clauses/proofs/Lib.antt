@@ -1,0 +1,3 @@
+mod Membership
+mod Whole
+pub mod Beside
