@@ -59,3 +59,7 @@ module _ {S : Type 0} (turn : S → Tokens → Loaded (Bool × S)) where
     pub settled : {n : ℕ} → Going turn s ts whole × (count ts ≤ n) → (more : Bool) {t : S} {us : Tokens} → Ok ((more, t), us) ≡ turn s ts → count us + cond more 1 0 ≤ count ts → more ≡ false → (Ok (t, us) ≡ whole) × (count us ≤ n)
     settled h true told on e = absurd (true≢false e)
     settled h false {t} {us} told on e = (ends (h .0) t us (sym told), omega (arith, h .1))
+
+    -- a fault in one
+    pub stopped : {n : ℕ} → Going turn s ts whole × (count ts ≤ n) → (x : LoadFault) → Err x ≡ turn s ts → Err x ≡ whole
+    stopped h x told = stops (h .0) x (sym told)
