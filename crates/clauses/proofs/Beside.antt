@@ -23,7 +23,8 @@ use Rattle.refusals.specs.declared.fault.RuleFault.the-variants.{NotDeclared, R
 use Rattle.refusals.specs.Steps.{Loaded, parse, then, refuse, many}
 use Rattle.refusals.proofs.Passing.{Passed, no-fault, accepted, parse-passed, then-passed, refuse-passed, many-keeps}
 use Rattle.values.specs.Values.{valueFrom}
-use Rattle.clauses.specs.Parts.{among, have, isKeyword, anotherIn, optional}
+use Rattle.refusals.specs.Shapes.{have, isKeyword, anotherIn, optional}
+use Rattle.clauses.specs.Parts.{among}
 use Rattle.clauses.specs.Clauses.{startIn, listedIn, valuesFull, valueTurn, valuesIn, verdictIn, mentionIn, mentionTurn, mentionsIn, countersIn, endIn, bodyIn, clauseIn, span}
 
 -- the tables but those of values, mentions and clauses are the same

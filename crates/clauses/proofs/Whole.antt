@@ -4,7 +4,7 @@ use mathlib.Core.Path.{_≡_, sym, ap, _∙_}
 use Prim.Native.Nat.{ℕ, _<_}
 use lib.ListN.{length}
 use Rattle.std.proofs.shelf.Tests.{lt-leb}
-use Rattle.std.specs.declared.result.Result.the-variants.{Ok, Err}
+use Rattle.std.specs.declared.result.Result.the-variants.{Ok}
 use Rattle.tokens.specs.Terminals.{Tokens}
 use Rattle.plan.specs.declared.rows.Clause.{Clause}
 use Rattle.plan.specs.Drafts.{Draft, withClause}

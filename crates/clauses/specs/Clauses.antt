@@ -1,5 +1,5 @@
 -- What the production of a clause makes of the tokens that are left.
-use mathlib.Core.Bool.{Bool, true, false, cond, _&&_, not}
+use mathlib.Core.Bool.{Bool, false, cond, _&&_, not}
 use mathlib.Core.List.{List}
 use Prim.Native.Nat.{ℕ}
 use lib.Chars.{codes}
@@ -9,7 +9,7 @@ use Rattle.std.specs.shelf.Maps.{nth}
 use Rattle.std.specs.shelf.Text.{sameBytes}
 use Rattle.std.specs.declared.option.Option.{Option}
 use Rattle.std.specs.declared.option.Option.the-variants.{Some, None}
-use Rattle.std.specs.declared.result.Result.the-variants.{Ok, Err}
+use Rattle.std.specs.declared.result.Result.the-variants.{Ok}
 use Rattle.keywords.specs.declared.Keyword.the-variants as kw
 use Rattle.bytes.specs.declared.kinds.Mark.the-variants as mk
 use Rattle.tokens.specs.Terminals.{Tokens}
@@ -31,7 +31,8 @@ use Rattle.names.specs.Names.{found}
 use Rattle.refusals.specs.declared.fault.RuleFault.the-variants.{NotDeclared, WrongKind, OutOfRange, Repeated, TableFull}
 use Rattle.refusals.specs.Steps.{Loaded, parse, then, refuse, allow, many}
 use Rattle.values.specs.Values.{valueFrom, valueIn}
-use Rattle.clauses.specs.Parts.{among, have, isKeyword, anotherIn, optional}
+use Rattle.refusals.specs.Shapes.{have, isKeyword, anotherIn, optional}
+use Rattle.clauses.specs.Parts.{among}
 
 -- values
 
@@ -53,7 +54,7 @@ listedIn first d ts =
     then (valueFrom start ts) λ v ts.
     refuse (among codeOf (v .value .code) (drop first (d .values))) (Repeated (v .place))
     (refuse (valuesFull d) (TableFull (v .place))
-     (Ok (withValue (v .value) d, ts)))
+    (Ok (withValue (v .value) d, ts)))
 
 -- value, and whether another follows
 abbrev pub valueTurn : ℕ → Draft → Tokens → Loaded (Bool × Draft)
@@ -94,7 +95,7 @@ mentionIn text from d ts =
     have (found (λ k. k .name) text (d .counters) (n .0)) (NotDeclared (n .1)) λ counter.
     refuse (among (λ k. k) counter (drop from (d .mentions))) (Repeated (n .1))
     (refuse (leb 2048 (length (d .mentions))) (TableFull (n .1))
-     (Ok (withMention counter d, ts)))
+    (Ok (withMention counter d, ts)))
 
 -- name, and whether another follows
 abbrev pub mentionTurn : List ℕ → ℕ → Draft → Tokens → Loaded (Bool × Draft)
@@ -127,7 +128,7 @@ leafIn text d ts =
     have (found (λ r. r .name) text (d .bins) (b .0)) (NotDeclared (b .1)) λ bin.
     refuse (not (leafOf group (nth (d .bins) bin))) (WrongKind (b .1))
     (parse (expectIn (sy.Mark mk.Semicolon) ts) λ _ ts.
-     Ok (Some bin, ts))
+    Ok (Some bin, ts))
 
 -- [SetBin name . name ;]
 abbrev pub setBinIn : List ℕ → Draft → Found → Tokens → Loaded (Option ℕ × Found)
@@ -181,5 +182,5 @@ unfoldable pub clauseIn : List ℕ → ℕ → ℕ → Draft → Tokens → Load
 clauseIn text p first d ts =
     refuse (leb 1024 (length (d .clauses))) (TableFull p)
     (then (valuesIn first d ts) λ listed ts.
-     then (bodyIn text (span (length (d .values)) (length (listed .values))) listed ts) λ b ts.
-     Ok (withClause (b .1) (b .0), ts))
+    then (bodyIn text (span (length (d .values)) (length (listed .values))) listed ts) λ b ts.
+    Ok (withClause (b .1) (b .0), ts))

@@ -73,8 +73,8 @@ clauseTokens c =
     keyword kw.Result
     ∷ severalTokens valueTokens (c .values)
     ++ (mark mk.OpenBrace
-        ∷ optionTokens verdictTokens (c .verdict)
-        ++ (optionTokens countersTokens (c .counters)
-            ++ (optionTokens setBinTokens (c .bin)
-                ++ (nextTokens (c .next)
-                    ++ mark mk.CloseBrace ∷ []))))
+    ∷ optionTokens verdictTokens (c .verdict)
+    ++ (optionTokens countersTokens (c .counters)
+    ++ (optionTokens setBinTokens (c .bin)
+    ++ (nextTokens (c .next)
+    ++ mark mk.CloseBrace ∷ []))))

@@ -26,7 +26,12 @@ use refusals::RuleFault;
 use tokens::Reader;
 
 // The name of a counter that the clause does not name yet.
-fn mention<'a>(r: &mut Reader<'a>, text: &[u8], t: &mut Tables, from: usize) -> Result<(), LoadFault>
+fn mention<'a>(
+    r: &mut Reader<'a>,
+    text: &[u8],
+    t: &mut Tables,
+    from: usize,
+) -> Result<(), LoadFault>
     ensures told { λ v. ⌜ ended (λ _. drafted (now (t .exit))) v (rest (now (r .exit))) ≡ mentionIn (now (text .entry)) from (drafted (now (t .entry))) (rest (now (r .entry))) ⌝ }
     ensures on { λ v. ⌜ made v (λ _. count (rest (now (r .exit))) < count (rest (now (r .entry)))) ⌝ }
     ensures kept { λ _. ⌜ drafted (now (t .exit)) .clauses ≡ drafted (now (t .entry)) .clauses ⌝ }
@@ -45,7 +50,12 @@ fn mention<'a>(r: &mut Reader<'a>, text: &[u8], t: &mut Tables, from: usize) -> 
     Ok(())
 }
 
-fn mention_turn<'a>(r: &mut Reader<'a>, text: &[u8], t: &mut Tables, from: usize) -> Result<bool, LoadFault>
+fn mention_turn<'a>(
+    r: &mut Reader<'a>,
+    text: &[u8],
+    t: &mut Tables,
+    from: usize,
+) -> Result<bool, LoadFault>
     ensures told { λ v. ⌜ ended (λ more. (more, drafted (now (t .exit)))) v (rest (now (r .exit))) ≡ mentionTurn (now (text .entry)) from (drafted (now (t .entry))) (rest (now (r .entry))) ⌝ }
     ensures on { λ v. ⌜ made v (λ _. count (rest (now (r .exit))) < count (rest (now (r .entry)))) ⌝ }
     ensures kept { λ _. ⌜ drafted (now (t .exit)) .clauses ≡ drafted (now (t .entry)) .clauses ⌝ }
@@ -55,7 +65,12 @@ fn mention_turn<'a>(r: &mut Reader<'a>, text: &[u8], t: &mut Tables, from: usize
 }
 
 // name (, name)* ;
-fn mentions<'a>(r: &mut Reader<'a>, text: &[u8], t: &mut Tables, from: usize) -> Result<(), LoadFault>
+fn mentions<'a>(
+    r: &mut Reader<'a>,
+    text: &[u8],
+    t: &mut Tables,
+    from: usize,
+) -> Result<(), LoadFault>
     ensures told { λ v. ⌜ ended (λ _. drafted (now (t .exit))) v (rest (now (r .exit))) ≡ mentionsIn (now (text .entry)) from (drafted (now (t .entry))) (rest (now (r .entry))) ⌝ }
     ensures on { λ v. ⌜ made v (λ _. count (rest (now (r .exit))) < count (rest (now (r .entry)))) ⌝ }
     ensures kept { λ _. ⌜ drafted (now (t .exit)) .clauses ≡ drafted (now (t .entry)) .clauses ⌝ }
@@ -65,7 +80,12 @@ fn mentions<'a>(r: &mut Reader<'a>, text: &[u8], t: &mut Tables, from: usize) ->
 }
 
 // [IncrementCounters name (, name)* ;] and the symbol behind it
-pub fn counters<'a>(r: &mut Reader<'a>, text: &[u8], t: &mut Tables, next: &mut Found) -> Result<(), LoadFault>
+pub fn counters<'a>(
+    r: &mut Reader<'a>,
+    text: &[u8],
+    t: &mut Tables,
+    next: &mut Found,
+) -> Result<(), LoadFault>
     ensures told { λ v. ⌜ ended (λ _. (drafted (now (t .exit)), now (next .exit))) v (rest (now (r .exit))) ≡ countersIn (now (text .entry)) (drafted (now (t .entry))) (now (next .entry)) (rest (now (r .entry))) ⌝ }
     ensures on { λ v. ⌜ made v (λ _. count (rest (now (r .exit))) ≤ count (rest (now (r .entry)))) ⌝ }
     ensures kept { λ _. ⌜ drafted (now (t .exit)) .clauses ≡ drafted (now (t .entry)) .clauses ⌝ }

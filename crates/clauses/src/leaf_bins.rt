@@ -60,7 +60,12 @@ fn leaf<'a>(r: &mut Reader<'a>, text: &[u8], t: &Tables) -> Result<Option<usize>
 }
 
 // [SetBin name . name ;] and the symbol behind it
-pub fn set_bin<'a>(r: &mut Reader<'a>, text: &[u8], t: &Tables, next: &mut Found) -> Result<Option<usize>, LoadFault>
+pub fn set_bin<'a>(
+    r: &mut Reader<'a>,
+    text: &[u8],
+    t: &Tables,
+    next: &mut Found,
+) -> Result<Option<usize>, LoadFault>
     ensures told { λ v. ⌜ ended (λ x. (x, now (next .exit))) v (rest (now (r .exit))) ≡ setBinIn (now (text .entry)) (drafted (now (t .entry))) (now (next .entry)) (rest (now (r .entry))) ⌝ }
     ensures on { λ v. ⌜ made v (λ _. count (rest (now (r .exit))) ≤ count (rest (now (r .entry)))) ⌝ }
 {

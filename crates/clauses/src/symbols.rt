@@ -6,7 +6,7 @@ ghost use Rattle.std.specs.Vec.{made};
 ghost use Rattle.tokens.specs.Terminals.{count};
 ghost use Rattle.tokens.specs.Reading.{rest};
 ghost use Rattle.grammar.specs.Readers.{left};
-ghost use Rattle.clauses.specs.Parts.{isKeyword, anotherIn};
+ghost use Rattle.refusals.specs.Shapes.{isKeyword, anotherIn};
 use bytes::Mark;
 use grammar::Found;
 use grammar::GrammarFault;

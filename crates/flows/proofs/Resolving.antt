@@ -55,7 +55,7 @@ module _ (text : List ℕ) (first : ℕ) (items : List Item) where
             left = drop-set-lt (i + 1) are i c (omega arith) ∙ (sym (drop-drop 1 i are) ∙ (ap (drop 1) (h .left) ∙ drop-drop 1 i was));
             as-many = length-set are i c ∙ h .as-many;
             so-far = ap (λ y. behind y (all (drop (i + 1) was))) (take-more-set are i c l) ∙ (sym (behind-onto (take i are) c (all (drop (i + 1) was))) ∙ (ap (behind (take i are)) (sym (one (Ok n) e)) ∙ h .so-far));
-            }
+          }
 
       -- the first that leads nowhere
       pub resolved-none : (e : LoadFault) → nextResolved text first items (x .next) ≡ Err e → Err e ≡ whole

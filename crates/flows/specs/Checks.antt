@@ -1,8 +1,8 @@
 -- What is checked of a whole item and a whole flow: returned values, depth, and the targets of GoTo.
-use mathlib.Core.Bool.{Bool, true, false, cond, _&&_}
+use mathlib.Core.Bool.{Bool, true, _&&_}
 use mathlib.Core.List.{List, [], _∷_, _++_, map}
 use Prim.Native.Nat.{ℕ, _+_, max}
-use lib.ListN.{length, drop, take}
+use lib.ListN.{drop, take}
 use Rattle.std.specs.shelf.Lists.{leading}
 use Rattle.std.specs.shelf.Maps.{nth}
 use Rattle.std.specs.declared.option.Option.{Option}
@@ -108,7 +108,7 @@ behind done (Err e) = Err e
 abbrev pub resolvedFrom : List ℕ → ℕ → List Item → ℕ → List Clause → Result (List Clause) LoadFault
 resolvedFrom text first items from clauses = behind (take from clauses) (clausesResolved text first items (drop from clauses))
 
--- the answer of a call that resolves clauses in their place
-abbrev pub resolvedTo : Result (Unit {0}) LoadFault → List Clause → Result (List Clause) LoadFault
-resolvedTo (Ok u) cs = Ok cs
-resolvedTo (Err e) cs = Err e
+-- the answer of a call that works on something in its place, and what that has become
+abbrev pub become : {X : Type 0} → Result (Unit {0}) LoadFault → X → Result X LoadFault
+become (Ok u) x = Ok x
+become (Err e) x = Err e

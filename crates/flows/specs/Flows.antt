@@ -1,5 +1,5 @@
 -- What the productions of an item and of a flow make of the tokens that are left.
-use mathlib.Core.Bool.{Bool, true, false, cond, not, _||_}
+use mathlib.Core.Bool.{Bool, true, not, _||_}
 use mathlib.Core.List.{List}
 use Prim.Native.Nat.{ℕ, _+_}
 use lib.Dec.{leb}
@@ -17,19 +17,16 @@ use Rattle.grammar.specs.declared.symbols.Found.{Found}
 use Rattle.grammar.specs.declared.symbols.Symbol.the-variants as sy
 use Rattle.grammar.specs.Readers.{Spot, nameIn, symbolIn, expectIn}
 use Rattle.plan.specs.declared.rows.Clause.{Clause}
-use Rattle.plan.specs.declared.rows.Flow.{Flow}
-use Rattle.plan.specs.declared.rows.Item.{Item}
 use Rattle.plan.specs.declared.rows.Name.{Name}
 use Rattle.plan.specs.declared.rows.Runs.{Runs}
 use Rattle.plan.specs.declared.rows.Runs.the-variants.{Test as RunsTest, Flow as RunsFlow}
 use Rattle.plan.specs.declared.rows.Span.{Span}
 use Rattle.plan.specs.Drafts.{Draft, withItem, withFlow, withClauses}
-use Rattle.plan.specs.Meaning.{rowsOf}
 use Rattle.names.specs.Names.{found}
 use Rattle.refusals.specs.declared.fault.LoadFault.{LoadFault}
 use Rattle.refusals.specs.declared.fault.RuleFault.the-variants.{DeclaredBefore, NotDeclared, TableFull, ReturnNotListed, TooDeep}
-use Rattle.refusals.specs.Steps.{Loaded, parse, then, refuse, allow, many}
-use Rattle.refusals.specs.Shapes.{isKeyword, isMark, have, rowTurn}
+use Rattle.refusals.specs.Steps.{Loaded, parse, then, refuse, allow, ended, many}
+use Rattle.refusals.specs.Shapes.{isKeyword, isMark, rowTurn}
 use Rattle.clauses.specs.Clauses.{clauseIn}
 use Rattle.flows.specs.Checks.{itemName, itemsListed, flowItems, depthIn, deepest, resolvedFrom}
 
@@ -51,8 +48,8 @@ clausesIn text d ts =
     parse (symbolIn ts) λ f ts.
     allow (isKeyword kw.Result f) (f .place)
     (then (many (clauseTurn text (length (d .values))) (d, f) ts) λ s ts.
-     allow (isMark mk.CloseBrace (s .1)) (s .1 .place)
-     (Ok (s .0, ts)))
+    allow (isMark mk.CloseBrace (s .1)) (s .1 .place)
+    (Ok (s .0, ts)))
 
 -- what an item runs
 
@@ -81,11 +78,11 @@ abbrev pub itemIn : List ℕ → ℕ → ℕ → Draft → Tokens → Loaded Dra
 itemIn text first place d ts =
     refuse (leb 512 (length (d .items))) (TableFull place)
     (parse (nameIn ts) λ n ts.
-     refuse (isSome (found itemName text (drop first (d .items)) (n .0))) (DeclaredBefore (n .1))
-     (then (runsIn text d ts) λ runs ts.
-      then (clausesIn text d ts) λ e ts.
-      refuse (not (runListed e (length (d .values)) runs)) (ReturnNotListed (n .1))
-      (Ok (withItem (record { name = nameOf n; runs = runs; clauses = span (length (d .clauses)) (length (e .clauses)) }) e, ts))))
+    refuse (isSome (found itemName text (drop first (d .items)) (n .0))) (DeclaredBefore (n .1))
+    (then (runsIn text d ts) λ runs ts.
+    then (clausesIn text d ts) λ e ts.
+    refuse (not (runListed e (length (d .values)) runs)) (ReturnNotListed (n .1))
+    (Ok (withItem (record { name = nameOf n; runs = runs; clauses = span (length (d .clauses)) (length (e .clauses)) }) e, ts))))
 
 -- the items of a flow
 
@@ -99,23 +96,26 @@ itemsIn text d ts =
     parse (symbolIn ts) λ f ts.
     allow (isKeyword kw.FlowItem f) (f .place)
     (then (many (itemTurn text (length (d .items))) (d, f) ts) λ s ts.
-     allow (isMark mk.CloseBrace (s .1)) (s .1 .place)
-     (Ok (s .0, ts)))
+    allow (isMark mk.CloseBrace (s .1)) (s .1 .place)
+    (Ok (s .0, ts)))
 
 -- a test or a flow has this name
 abbrev pub runnable : List ℕ → Draft → List ℕ → Bool
 runnable text d word = isSome (found (λ t. t .name) text (d .tests) word) || isSome (found (λ f. f .name) text (d .flows) word)
 
--- the flow is closed: its items are those from the row `first` on, and its clauses lead to them
-abbrev pub closed : Spot → ℕ → Draft → Result (List Clause) LoadFault → Tokens → Loaded Draft
-closed n first d (Ok cs) ts = Ok (withFlow (record { name = nameOf n; items = span first (length (d .items)); depth = 1 + deepest (d .flows) (drop first (d .items)) }) (withClauses cs d), ts)
-closed n first d (Err e) ts = Err e
+abbrev pub withTargets : Name → ℕ → Draft → Result (List Clause) LoadFault → Result Draft LoadFault
+withTargets n first d (Ok cs) = Ok (withFlow (record { name = n; items = span first (length (d .items)); depth = 1 + deepest (d .flows) (drop first (d .items)) }) (withClauses cs d))
+withTargets n first d (Err e) = Err e
+
+-- the flow is closed: its items are those from the row `first` on, and its clauses, from the row `from` on, lead to them
+abbrev pub closed : List ℕ → Name → ℕ → ℕ → Draft → Result Draft LoadFault
+closed text n first from d = withTargets n first d (resolvedFrom text first (drop first (d .items)) from (d .clauses))
 
 -- name { item+ }   behind a keyword at this place
 unfoldable pub flowIn : List ℕ → ℕ → Draft → Tokens → Loaded Draft
 flowIn text place d ts =
     refuse (leb 64 (length (d .flows))) (TableFull place)
     (parse (nameIn ts) λ n ts.
-     refuse (runnable text d (n .0)) (DeclaredBefore (n .1))
-     (then (itemsIn text d ts) λ e ts.
-      closed n (length (d .items)) e (resolvedFrom text (length (d .items)) (drop (length (d .items)) (e .items)) (length (d .clauses)) (e .clauses)) ts))
+    refuse (runnable text d (n .0)) (DeclaredBefore (n .1))
+    (then (itemsIn text d ts) λ e ts.
+    ended (λ x. x) (closed text (nameOf n) (length (d .items)) (length (d .clauses)) e) ts))

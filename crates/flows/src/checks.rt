@@ -7,7 +7,7 @@ ghost use lib.ListN.{length, drop};
 ghost use Rattle.std.specs.shelf.Maps.{nth};
 ghost use Rattle.plan.specs.Meaning.{rowsOf, codeOf};
 ghost use Rattle.plan.specs.Meaning.{lists as listed};
-ghost use Rattle.flows.specs.Checks.{returnListed, clausesListed, itemsListed, flowItems, depthIn, depthOf, deepest, wordAt, nextResolved, resolvedFrom, resolvedTo};
+ghost use Rattle.flows.specs.Checks.{returnListed, clausesListed, itemsListed, flowItems, depthIn, depthOf, deepest, wordAt, nextResolved, resolvedFrom, become};
 ghost use Rattle.std.specs.Of.Vec.{vec-items, vec-cap};
 use bytes::ByteKind;
 use bytes::run_end;
@@ -161,16 +161,28 @@ fn resolve_next(text: &[u8], first: usize, items: &[Item], next: Next) -> Result
 }
 
 // Every GoTo of the clauses from a row on leads to the item that is named at its place, or the first that does not is told.
-pub fn resolve(text: &[u8], first: usize, items: &[Item], from: usize, clauses: &mut Vec<Clause>) -> Result<(), LoadFault>
+pub fn resolve(
+    text: &[u8],
+    first: usize,
+    items: &[Item],
+    from: usize,
+    clauses: &mut Vec<Clause>,
+) -> Result<(), LoadFault>
     requires { ⌜ first + length (now items) ≤ 512 ⌝ }
-    ensures told { λ v. ⌜ resolvedTo v (vec-items (now (clauses .exit))) ≡ resolvedFrom (now (text .entry)) first (now (items .entry)) from (vec-items (now (clauses .entry))) ⌝ }
+    ensures told { λ v. ⌜ become v (vec-items (now (clauses .exit))) ≡ resolvedFrom (now (text .entry)) first (now (items .entry)) from (vec-items (now (clauses .entry))) ⌝ }
     ensures room { λ _. ⌜ vec-cap (now (clauses .exit)) ≡ vec-cap (now (clauses .entry)) ⌝ }
 {
     let mut i = from;
     while i < clauses.len() {
         let c = clauses[i];
         let next = resolve_next(text, first, items, c.next)?;
-        clauses[i] = Clause { values: c.values, verdict: c.verdict, counters: c.counters, leaf: c.leaf, next };
+        clauses[i] = Clause {
+            values: c.values,
+            verdict: c.verdict,
+            counters: c.counters,
+            leaf: c.leaf,
+            next,
+        };
         i += 1;
     }
     Ok(())

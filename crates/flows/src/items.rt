@@ -43,7 +43,13 @@ use tokens::Reader;
 const DEEPEST_RUN: usize = 7;
 
 // A clause and the symbol behind it, where one begins.
-fn clause_turn<'a>(r: &mut Reader<'a>, text: &[u8], t: &mut Tables, first: usize, next: &mut Found) -> Result<bool, LoadFault>
+fn clause_turn<'a>(
+    r: &mut Reader<'a>,
+    text: &[u8],
+    t: &mut Tables,
+    first: usize,
+    next: &mut Found,
+) -> Result<bool, LoadFault>
     ensures told { λ v. ⌜ ended (λ more. (more, (drafted (now (t .exit)), now (next .exit)))) v (rest (now (r .exit))) ≡ clauseTurn (now (text .entry)) first (drafted (now (t .entry)), now (next .entry)) (rest (now (r .entry))) ⌝ }
     ensures on { λ v. ⌜ made v (λ more. count (rest (now (r .exit))) + cond more 1 0 ≤ count (rest (now (r .entry)))) ⌝ }
 {
@@ -56,7 +62,13 @@ fn clause_turn<'a>(r: &mut Reader<'a>, text: &[u8], t: &mut Tables, first: usize
 }
 
 // clause clause .. up to a symbol that begins no clause
-fn item_clauses<'a>(r: &mut Reader<'a>, text: &[u8], t: &mut Tables, first: usize, next: &mut Found) -> Result<(), LoadFault>
+fn item_clauses<'a>(
+    r: &mut Reader<'a>,
+    text: &[u8],
+    t: &mut Tables,
+    first: usize,
+    next: &mut Found,
+) -> Result<(), LoadFault>
     ensures told { λ v. ⌜ ended (λ _. (drafted (now (t .exit)), now (next .exit))) v (rest (now (r .exit))) ≡ many (clauseTurn (now (text .entry)) first) (drafted (now (t .entry)), now (next .entry)) (rest (now (r .entry))) ⌝ }
     ensures on { λ v. ⌜ made v (λ _. count (rest (now (r .exit))) ≤ count (rest (now (r .entry)))) ⌝ }
 {
@@ -110,13 +122,23 @@ fn run_listed(t: &Tables, first: usize, runs: Runs) -> bool
         Runs::Test(_) => true,
         Runs::Flow(f) => {
             let items = items_of(t.flows.as_slice(), t.items.as_slice(), f);
-            items_listed(items, t.clauses.as_slice(), rows_from(t.values.as_slice(), first))
+            items_listed(
+                items,
+                t.clauses.as_slice(),
+                rows_from(t.values.as_slice(), first),
+            )
         }
     }
 }
 
 // name name { clause+ } behind the keyword at `place`, in the flow whose items begin at the row `first`
-pub fn item<'a>(r: &mut Reader<'a>, text: &[u8], t: &mut Tables, first: usize, place: usize) -> Result<(), LoadFault>
+pub fn item<'a>(
+    r: &mut Reader<'a>,
+    text: &[u8],
+    t: &mut Tables,
+    first: usize,
+    place: usize,
+) -> Result<(), LoadFault>
     ensures told { λ v. ⌜ ended (λ _. drafted (now (t .exit))) v (rest (now (r .exit))) ≡ itemIn (now (text .entry)) first place (drafted (now (t .entry))) (rest (now (r .entry))) ⌝ }
     ensures on { λ v. ⌜ made v (λ _. count (rest (now (r .exit))) < count (rest (now (r .entry)))) ⌝ }
 {
@@ -134,7 +156,17 @@ pub fn item<'a>(r: &mut Reader<'a>, text: &[u8], t: &mut Tables, first: usize, p
     if !run_listed(t, values, runs) {
         return Err(LoadFault::Rule(RuleFault::ReturnNotListed(n.place)));
     }
-    let clauses = Span { from, to: t.clauses.len() };
-    t.add_item(Item { name: Name { place: n.place, len: n.bytes.len() }, runs, clauses });
+    let clauses = Span {
+        from,
+        to: t.clauses.len(),
+    };
+    t.add_item(Item {
+        name: Name {
+            place: n.place,
+            len: n.bytes.len(),
+        },
+        runs,
+        clauses,
+    });
     Ok(())
 }

@@ -1,8 +1,7 @@
 //! The productions of a flow: its items, and what is checked when an item or a flow is closed.
 
 mod checks;
+mod flow_block;
 mod items;
 
-pub use checks::deepest_run;
-pub use checks::resolve;
-pub use items::item;
+pub use flow_block::flow;

@@ -3,7 +3,7 @@ use native.Mathlib.Omega.{arith}
 use Prim.Native.Nat.{_<_}
 use lib.ListN.{length}
 use Rattle.std.specs.declared.result.Result.the-variants.{Ok}
-use mathlib.Core.Path.{_≡_, ap, _∙_}
+use mathlib.Core.Path.{ap, _∙_}
 use Rattle.tokens.specs.Reading.{rest}
 use Rattle.plan.specs.Drafts.{drafted}
 use Rattle.clauses.specs.Clauses.{clauseIn}
@@ -27,7 +27,9 @@ returns c =
     let room : length (drafted (c .args .t .now) .clauses) < 1024 = omega (arith, c .args .t .now .clauses .ok .0) in
     let from = c .len-from .ensures ∙ c .args .t .now .values .ok .0 in
     let to = c .len-2 .ensures ∙ c .values .last .t .values .ok .0 in
+    let values-read = c .in-Continue-values .ensures tt in
+    let body-read = c .in-Continue-row .ensures tt in
     record {
-      told = ap (λ d. Ok (d, rest (c .body .last .r))) (c .add-clause .ensures) ∙ clause-read (c .args .text .now) (c .args .place) (c .args .first) (drafted (c .args .t .now)) (rest (c .args .r .now)) _ _ _ _ _ _ _ room from to (c .in-Continue-values .ensures tt .told) (c .in-Continue-row .ensures tt .told);
-      on = omega (arith, c .in-Continue-values .ensures tt .on, c .in-Continue-row .ensures tt .on);
+      told = ap (λ d. Ok (d, rest (c .body .last .r))) (c .add-clause .ensures) ∙ clause-read (c .args .text .now) (c .args .place) (c .args .first) (drafted (c .args .t .now)) (rest (c .args .r .now)) (drafted (c .values .last .t)) (drafted (c .body .last .t)) (c .in-Continue-row .row) (rest (c .values .last .r)) (rest (c .body .last .r)) (c .len-from .result) (c .len-2 .result) room from to (values-read .told) (body-read .told);
+      on = omega (arith, values-read .on, body-read .on);
     }
