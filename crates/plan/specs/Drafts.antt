@@ -57,7 +57,7 @@ withGroup row d = record {
   mentions = d .mentions;
   sortGroup = d .sortGroup;
   mainFlow = d .mainFlow;
-  }
+}
 
 abbrev pub withBin : Bin → Draft → Draft
 withBin row d = record {
@@ -72,7 +72,7 @@ withBin row d = record {
   mentions = d .mentions;
   sortGroup = d .sortGroup;
   mainFlow = d .mainFlow;
-  }
+}
 
 abbrev pub withCounter : Counter → Draft → Draft
 withCounter row d = record {
@@ -87,7 +87,7 @@ withCounter row d = record {
   mentions = d .mentions;
   sortGroup = d .sortGroup;
   mainFlow = d .mainFlow;
-  }
+}
 
 abbrev pub withTest : Test → Draft → Draft
 withTest row d = record {
@@ -102,7 +102,7 @@ withTest row d = record {
   mentions = d .mentions;
   sortGroup = d .sortGroup;
   mainFlow = d .mainFlow;
-  }
+}
 
 abbrev pub withFlow : Flow → Draft → Draft
 withFlow row d = record {
@@ -117,7 +117,7 @@ withFlow row d = record {
   mentions = d .mentions;
   sortGroup = d .sortGroup;
   mainFlow = d .mainFlow;
-  }
+}
 
 abbrev pub withItem : Item → Draft → Draft
 withItem row d = record {
@@ -132,7 +132,7 @@ withItem row d = record {
   mentions = d .mentions;
   sortGroup = d .sortGroup;
   mainFlow = d .mainFlow;
-  }
+}
 
 abbrev pub withClause : Clause → Draft → Draft
 withClause row d = record {
@@ -147,7 +147,7 @@ withClause row d = record {
   mentions = d .mentions;
   sortGroup = d .sortGroup;
   mainFlow = d .mainFlow;
-  }
+}
 
 abbrev pub withValue : Value → Draft → Draft
 withValue row d = record {
@@ -162,7 +162,7 @@ withValue row d = record {
   mentions = d .mentions;
   sortGroup = d .sortGroup;
   mainFlow = d .mainFlow;
-  }
+}
 
 abbrev pub withMention : ℕ → Draft → Draft
 withMention row d = record {
@@ -177,7 +177,7 @@ withMention row d = record {
   mentions = d .mentions ++ row ∷ [];
   sortGroup = d .sortGroup;
   mainFlow = d .mainFlow;
-  }
+}
 
 -- the clauses replaced
 abbrev pub withClauses : List Clause → Draft → Draft
@@ -193,7 +193,7 @@ withClauses rows d = record {
   mentions = d .mentions;
   sortGroup = d .sortGroup;
   mainFlow = d .mainFlow;
-  }
+}
 
 abbrev pub withSortGroup : ℕ → Draft → Draft
 withSortGroup n d = record {
@@ -208,7 +208,7 @@ withSortGroup n d = record {
   mentions = d .mentions;
   sortGroup = n;
   mainFlow = d .mainFlow;
-  }
+}
 
 abbrev pub withMainFlow : ℕ → Draft → Draft
 withMainFlow n d = record {
@@ -223,4 +223,4 @@ withMainFlow n d = record {
   mentions = d .mentions;
   sortGroup = d .sortGroup;
   mainFlow = n;
-  }
+}

@@ -40,10 +40,10 @@ headerIn ts =
     parse (decimalIn ts) λ v ts.
     refuse (not (sameBytes (v .0) (codes "1.0"))) (OutOfRange (v .1))
     (parse (expectIn (sy.Mark mk.Semicolon) ts) λ _ ts.
-     parse (expectIn (sy.Keyword kw.TestPlan) ts) λ _ ts.
-     parse (nameIn ts) λ n ts.
-     parse (expectIn (sy.Mark mk.Semicolon) ts) λ _ ts.
-     Ok (nameOf n, ts))
+    parse (expectIn (sy.Keyword kw.TestPlan) ts) λ _ ts.
+    parse (nameIn ts) λ n ts.
+    parse (expectIn (sy.Mark mk.Semicolon) ts) λ _ ts.
+    Ok (nameOf n, ts))
 
 abbrev pub testTurn : List ℕ → Draft × Found → Tokens → Loaded (Bool × (Draft × Found))
 testTurn text = rowTurn (isKeyword kw.Test) λ f. testIn text (f .place)
@@ -77,8 +77,8 @@ abbrev pub flowsIn : List ℕ → Draft × Found → Tokens → Loaded Draft
 flowsIn text s ts =
     allow (isKeyword kw.Flow (s .1)) (s .1 .place)
     (then (many (flowTurn text) s ts) λ s ts.
-     allow (isKeyword kw.FlowDefs (s .1)) (s .1 .place)
-     (mainIn text (s .0) ts))
+    allow (isKeyword kw.FlowDefs (s .1)) (s .1 .place)
+    (mainIn text (s .0) ts))
 
 -- [counters] test* flow+ FlowDefs { MainFlow = name ; }
 abbrev pub sectionsIn : List ℕ → Draft → Tokens → Loaded Draft
@@ -102,9 +102,9 @@ unfoldable pub fileIn : List ℕ → Draft → Tokens → Result (Name × Draft)
 fileIn text d ts =
     closed
     (then (headerIn ts) λ n ts.
-     then (binsIn text d ts) λ d ts.
-     then (sectionsIn text d ts) λ d ts.
-     Ok ((n, d), ts))
+    then (binsIn text d ts) λ d ts.
+    then (sectionsIn text d ts) λ d ts.
+    Ok ((n, d), ts))
 
 -- the answer of the code, with the tables that it leaves
 abbrev pub filed : Result Name LoadFault → Draft → Result (Name × Draft) LoadFault

@@ -34,5 +34,8 @@ pub fn header<'a>(r: &mut Reader<'a>) -> Result<Name, LoadFault>
     expect(r, Symbol::Keyword(Keyword::TestPlan))?;
     let n = name(r)?;
     expect(r, Symbol::Mark(Mark::Semicolon))?;
-    Ok(Name { place: n.place, len: n.bytes.len() })
+    Ok(Name {
+        place: n.place,
+        len: n.bytes.len(),
+    })
 }

@@ -34,7 +34,12 @@ use refusals::RuleFault;
 use tokens::Reader;
 
 // [counters], and the symbol behind it
-fn maybe_counters<'a>(r: &mut Reader<'a>, text: &[u8], t: &mut Tables, next: &mut Found) -> Result<(), LoadFault>
+fn maybe_counters<'a>(
+    r: &mut Reader<'a>,
+    text: &[u8],
+    t: &mut Tables,
+    next: &mut Found,
+) -> Result<(), LoadFault>
     ensures told { λ v. ⌜ ended (λ _. (drafted (now (t .exit)), now (next .exit))) v (rest (now (r .exit))) ≡ optional CountersWord (drafted (now (t .entry))) (countersIn (now (text .entry)) (drafted (now (t .entry)))) (now (next .entry)) (rest (now (r .entry))) ⌝ }
     ensures on { λ v. ⌜ made v (λ _. count (rest (now (r .exit))) ≤ count (rest (now (r .entry)))) ⌝ }
 {
@@ -46,7 +51,12 @@ fn maybe_counters<'a>(r: &mut Reader<'a>, text: &[u8], t: &mut Tables, next: &mu
 }
 
 // A test and the symbol behind it, where one begins.
-fn test_turn<'a>(r: &mut Reader<'a>, text: &[u8], t: &mut Tables, next: &mut Found) -> Result<bool, LoadFault>
+fn test_turn<'a>(
+    r: &mut Reader<'a>,
+    text: &[u8],
+    t: &mut Tables,
+    next: &mut Found,
+) -> Result<bool, LoadFault>
     ensures told { λ v. ⌜ ended (λ more. (more, (drafted (now (t .exit)), now (next .exit)))) v (rest (now (r .exit))) ≡ testTurn (now (text .entry)) (drafted (now (t .entry)), now (next .entry)) (rest (now (r .entry))) ⌝ }
     ensures on { λ v. ⌜ made v (λ more. count (rest (now (r .exit))) + cond more 1 0 ≤ count (rest (now (r .entry)))) ⌝ }
 {
@@ -59,7 +69,12 @@ fn test_turn<'a>(r: &mut Reader<'a>, text: &[u8], t: &mut Tables, next: &mut Fou
 }
 
 // test test .. up to a symbol that begins no test
-fn tests<'a>(r: &mut Reader<'a>, text: &[u8], t: &mut Tables, next: &mut Found) -> Result<(), LoadFault>
+fn tests<'a>(
+    r: &mut Reader<'a>,
+    text: &[u8],
+    t: &mut Tables,
+    next: &mut Found,
+) -> Result<(), LoadFault>
     ensures told { λ v. ⌜ ended (λ _. (drafted (now (t .exit)), now (next .exit))) v (rest (now (r .exit))) ≡ many (testTurn (now (text .entry))) (drafted (now (t .entry)), now (next .entry)) (rest (now (r .entry))) ⌝ }
     ensures on { λ v. ⌜ made v (λ _. count (rest (now (r .exit))) ≤ count (rest (now (r .entry)))) ⌝ }
 {
@@ -68,7 +83,12 @@ fn tests<'a>(r: &mut Reader<'a>, text: &[u8], t: &mut Tables, next: &mut Found) 
 }
 
 // A flow and the symbol behind it, where one begins.
-fn flow_turn<'a>(r: &mut Reader<'a>, text: &[u8], t: &mut Tables, next: &mut Found) -> Result<bool, LoadFault>
+fn flow_turn<'a>(
+    r: &mut Reader<'a>,
+    text: &[u8],
+    t: &mut Tables,
+    next: &mut Found,
+) -> Result<bool, LoadFault>
     ensures told { λ v. ⌜ ended (λ more. (more, (drafted (now (t .exit)), now (next .exit)))) v (rest (now (r .exit))) ≡ flowTurn (now (text .entry)) (drafted (now (t .entry)), now (next .entry)) (rest (now (r .entry))) ⌝ }
     ensures on { λ v. ⌜ made v (λ more. count (rest (now (r .exit))) + cond more 1 0 ≤ count (rest (now (r .entry)))) ⌝ }
 {
@@ -81,7 +101,12 @@ fn flow_turn<'a>(r: &mut Reader<'a>, text: &[u8], t: &mut Tables, next: &mut Fou
 }
 
 // flow flow .. up to a symbol that begins no flow
-fn flows<'a>(r: &mut Reader<'a>, text: &[u8], t: &mut Tables, next: &mut Found) -> Result<(), LoadFault>
+fn flows<'a>(
+    r: &mut Reader<'a>,
+    text: &[u8],
+    t: &mut Tables,
+    next: &mut Found,
+) -> Result<(), LoadFault>
     ensures told { λ v. ⌜ ended (λ _. (drafted (now (t .exit)), now (next .exit))) v (rest (now (r .exit))) ≡ many (flowTurn (now (text .entry))) (drafted (now (t .entry)), now (next .entry)) (rest (now (r .entry))) ⌝ }
     ensures on { λ v. ⌜ made v (λ _. count (rest (now (r .exit))) ≤ count (rest (now (r .entry)))) ⌝ }
 {
@@ -120,7 +145,12 @@ fn main_flow<'a>(r: &mut Reader<'a>, text: &[u8], t: &mut Tables) -> Result<(), 
 }
 
 // flow+ FlowDefs { MainFlow = name ; } from the symbol that was read last
-fn flow_section<'a>(r: &mut Reader<'a>, text: &[u8], t: &mut Tables, next: &mut Found) -> Result<(), LoadFault>
+fn flow_section<'a>(
+    r: &mut Reader<'a>,
+    text: &[u8],
+    t: &mut Tables,
+    next: &mut Found,
+) -> Result<(), LoadFault>
     ensures told { λ v. ⌜ ended (λ _. drafted (now (t .exit))) v (rest (now (r .exit))) ≡ flowsIn (now (text .entry)) (drafted (now (t .entry)), now (next .entry)) (rest (now (r .entry))) ⌝ }
     ensures on { λ v. ⌜ made v (λ _. count (rest (now (r .exit))) < count (rest (now (r .entry)))) ⌝ }
 {

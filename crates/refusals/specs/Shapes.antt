@@ -40,8 +40,8 @@ abbrev pub optional : {X : Type 0} → Keyword → X → (Tokens → Loaded X) �
 optional k none part f ts =
     cond (isKeyword k f)
     (then (part ts) λ x ts.
-     parse (symbolIn ts) λ f ts.
-     Ok ((x, f), ts))
+    parse (symbolIn ts) λ f ts.
+    Ok ((x, f), ts))
     (Ok ((none, f), ts))
 
 -- a row and the symbol behind it, where the symbol read last begins a row
@@ -49,6 +49,6 @@ abbrev pub rowTurn : {S : Type 0} → (Found → Bool) → (Found → S → Toke
 rowTurn begins row s ts =
     cond (begins (s .1))
     (then (row (s .1) (s .0) ts) λ t ts.
-     parse (symbolIn ts) λ f ts.
-     Ok ((true, (t, f)), ts))
+    parse (symbolIn ts) λ f ts.
+    Ok ((true, (t, f)), ts))
     (Ok ((false, s), ts))

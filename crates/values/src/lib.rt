@@ -32,19 +32,26 @@ pub fn value_of(negative: bool, n: u32) -> Option<Value>
         if n > 32768 {
             return None;
         }
-        return Some(Value { code: (32768 - n) as u16 });
+        return Some(Value {
+            code: (32768 - n) as u16,
+        });
     }
     if n > 32767 {
         return None;
     }
-    Some(Value { code: (32768 + n) as u16 })
+    Some(Value {
+        code: (32768 + n) as u16,
+    })
 }
 
 fn in_range(negative: bool, n: Numeral) -> Result<ReadValue, LoadFault>
     ensures { λ v. ⌜ v ≡ ranged negative n ⌝ }
 {
     match value_of(negative, n.value) {
-        Some(value) => Ok(ReadValue { value, place: n.place }),
+        Some(value) => Ok(ReadValue {
+            value,
+            place: n.place,
+        }),
         None => Err(LoadFault::Rule(RuleFault::OutOfRange(n.place))),
     }
 }
