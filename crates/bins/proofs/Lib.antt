@@ -1,1 +1,4 @@
+pub mod Kept
+pub mod Rows
 mod Scans
+pub mod Sorted

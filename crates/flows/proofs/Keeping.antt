@@ -27,22 +27,11 @@ use Rattle.names.specs.Names.{found}
 use Rattle.refusals.specs.declared.fault.RuleFault.the-variants.{DeclaredBefore, TableFull, ReturnNotListed, TooDeep}
 use Rattle.refusals.specs.Steps.{Loaded, parse, then, turns, many}
 use Rattle.refusals.specs.Shapes.{isKeyword, isMark, rowTurn}
-use Rattle.refusals.proofs.Passing.{no-fault, accepted, parse-passed, then-passed, refuse-passed, allow-passed, many-keeps}
+use Rattle.refusals.proofs.Passing.{no-fault, accepted, parse-passed, then-passed, refuse-passed, allow-passed, many-keeps, turn-keeps}
 use Rattle.clauses.specs.Clauses.{clauseIn}
 use Rattle.clauses.proofs.Beside.{Beside, beside, beside-then, clause-beside}
 use Rattle.flows.specs.Checks.{itemName, depthIn, depthOf, deepest}
 use Rattle.flows.specs.Flows.{clauseTurn, clausesIn, flowRun, testRun, runsIn, runListed, itemIn, itemTurn, itemsIn}
-
--- what each row keeps, a turn keeps
-pub turn-keeps : {S : Type 0} (begins : Found → Bool) (row : Found → S → Tokens → Loaded S) (P : S → Type 0) → ((f : Found) (s : S) (ts : Tokens) (t : S) (us : Tokens) → row f s ts ≡ Ok (t, us) → P s → P t) → (s : S × Found) (ts : Tokens) (more : Bool) (t : S × Found) (us : Tokens) → rowTurn begins row s ts ≡ Ok ((more, t), us) → P (s .0) → P (t .0)
-turn-keeps {S} begins row P keeps s ts more t us h p = by (begins (s .1)) h
-  where
-    by : (b : Bool) → cond b (then {Y = Bool × (S × Found)} (row (s .1) (s .0) ts) λ x ts. parse (symbolIn ts) λ f ts. Ok ((true, (x, f)), ts)) (Ok ((false, s), ts)) ≡ Ok ((more, t), us) → P (t .0)
-    by true h =
-        let one = then-passed (row (s .1) (s .0) ts) h in
-        let next = parse-passed (symbolIn (one .us)) (one .goes) in
-        subst P (ap (λ x. x .1 .0) (accepted (next .goes) .0)) (keeps (s .1) (s .0) ts (one .v) (one .us) (one .is) p)
-    by false h = subst P (ap (λ x. x .1 .0) (accepted h .0)) p
 
 -- the clauses of an item leave alone what is not theirs
 pub clauses-beside : (text : List ℕ) (d : Draft) (ts : Tokens) (e : Draft) (us : Tokens) → clausesIn text d ts ≡ Ok (e, us) → Beside d e
@@ -54,7 +43,7 @@ clauses-beside text d ts e us h =
     let ended = allow-passed (isMark mk.CloseBrace (all .v .1)) (all .v .1 .place) _ (all .goes) in
     subst (Beside d) (accepted (ended .1) .0)
     (many-keeps (clauseTurn text (length (d .values))) (λ s. Beside d (s .0))
-    (λ s ts more t us k p. turn-keeps (isKeyword kw.Result) (λ f. clauseIn text (f .place) (length (d .values))) (Beside d) (λ f s ts t us k p. beside-then p (clause-beside text (f .place) (length (d .values)) s ts t us k)) s ts more t us k p)
+    (λ s ts more t us k p. turn-keeps (isKeyword kw.Result) (λ f. clauseIn text (f .place) (length (d .values))) (λ s _. Beside d s) (λ s ts f us e p. p) (λ f s ts t us k p. beside-then p (clause-beside text (f .place) (length (d .values)) s ts t us k)) s ts more t us k p)
     (d, f .v) (f .us) (all .v) (all .us) (all .is) (beside d))
 
 -- a repetition that begins with a row has read that row
@@ -127,7 +116,7 @@ items-added text d ts e us h =
     let room = refuse-passed (leb 512 first) (TableFull (f .v .place)) _ (one .2) in
     subst (Added d) (accepted (ended .1) .0)
     (many-keeps (itemTurn text first) (λ s. Added d (s .0))
-    (turn-keeps (isKeyword kw.FlowItem) (λ f. itemIn text first (f .place)) (Added d) (λ f. item-added text first (f .place) d))
+    (turn-keeps (isKeyword kw.FlowItem) (λ f. itemIn text first (f .place)) (λ s _. Added d s) (λ s ts f us e p. p) (λ f. item-added text first (f .place) d))
     (d, f .v) (f .us) (all .v) (all .us) (all .is)
     (record { flows = refl; more = []; items = sym (append-nil (d .items)); shallow = omega arith; few = omega (arith, leb-false 512 first (room .0)) }))
 

@@ -1,3 +1,4 @@
+pub mod Added
 pub mod Blanks
 pub mod Clauses
 pub mod Climbs
