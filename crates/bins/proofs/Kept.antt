@@ -7,7 +7,7 @@ use Prim.Native.Nat.{ℕ, zero, suc, _+_, _<_, _≤_}
 use native.Mathlib.Omega.{arith}
 use lib.Dec.{leb, ltb}
 use lib.ListN.{length, length-append}
-use Rattle.std.proofs.shelf.Tests.{true≢false, leb-false, ltb-false}
+use Rattle.std.proofs.shelf.Tests.{leb-false, ltb-false}
 use Rattle.std.specs.shelf.Maps.{nth}
 use Rattle.std.specs.Options.{isSome}
 use Rattle.std.specs.declared.option.Option.{Option}
@@ -27,7 +27,7 @@ use Rattle.plan.specs.Rules.{Once, spelt}
 use Rattle.plan.proofs.Added.{the-same, once-row}
 use Rattle.plan.proofs.Spans.{never-some}
 use Rattle.names.specs.Names.{found}
-use Rattle.names.proofs.Found.{found-below, found-none}
+use Rattle.names.proofs.Found.{found-below, none-found}
 use Rattle.refusals.specs.declared.fault.RuleFault.the-variants.{DeclaredBefore, WrongKind, OutOfRange, Repeated, TableFull}
 use Rattle.refusals.specs.Steps.{parse, allow, many}
 use Rattle.refusals.proofs.Passing.{no-fault, accepted, parse-passed, then-passed, refuse-passed, allow-passed, rows-keep}
@@ -67,10 +67,6 @@ pub record BinsKept (text : List ℕ) (start e : Draft) : Type 0 where
   pub sortGroup : e .sortGroup < length (e .groups)
   pub leafSorted : (i : ℕ) (b : Bin) → nth (e .bins) i ≡ Some b → b .leaf ≡ true → SortRow (e .bins) (e .sortGroup) i
   pub others : OthersSame start e
-
-nothing-there : {X : Type 0} (o : Option X) → isSome o ≡ false → o ≡ None
-nothing-there (Some x) e = absurd (true≢false e)
-nothing-there None e = refl
 
 module _ (text : List ℕ) where
   -- a number that was read fits and is free
@@ -140,7 +136,7 @@ module _ (text : List ℕ) where
           rows = rows-added reached (d .bins) row (s .rows) at (leb-false 128 (length (d .bins)) (room .0)) (numbered .0) (numbered .1) (good .0);
           groupsFit = s .groupsFit;
           groupNames = s .groupNames;
-          binNames = once-row (λ b. spelt text (b .name)) (d .bins) row (s .binNames) (λ i is. found-none (λ b. b .name) text (n .v .0) (d .bins) (nothing-there _ (new .0)) i (is ∙ ap Some spelled));
+          binNames = once-row (λ b. spelt text (b .name)) (d .bins) row (s .binNames) (λ i is. none-found (λ b. b .name) text (n .v .0) (d .bins) (new .0) i (is ∙ ap Some spelled));
           others = others-bin row d (s .others);
           names = good .1;
         } in (
@@ -185,7 +181,7 @@ module _ (text : List ℕ) where
         let added : SoFar text start (length (d .groups)) (withGroup row d) (next .us) = record {
           rows = s .rows;
           groupsFit = omega (arith, counted, leb-false 16 (length (d .groups)) (room .0));
-          groupNames = once-row (λ g. spelt text (g .name)) (d .groups) row (s .groupNames) (λ i is. found-none (λ g. g .name) text (n .v .0) (d .groups) (nothing-there _ (new .0)) i (is ∙ ap Some spelled));
+          groupNames = once-row (λ g. spelt text (g .name)) (d .groups) row (s .groupNames) (λ i is. none-found (λ g. g .name) text (n .v .0) (d .groups) (new .0) i (is ∙ ap Some spelled));
           binNames = s .binNames;
           others = others-group row d (s .others);
           names = want-leaves text _ _ (brace .us) (next .v) (next .us) (next .is) left;

@@ -6,8 +6,10 @@ use Prim.Native.Nat.{ℕ, zero, suc, _+_, _<_}
 use native.Mathlib.Omega.{arith}
 use lib.ListN.{length}
 use Rattle.std.proofs.shelf.Equals.{sameBytes-decides}
-use Rattle.std.proofs.shelf.Tests.{both-ways}
+use Rattle.std.proofs.shelf.Tests.{true≢false, both-ways}
 use Rattle.std.specs.shelf.Maps.{nth}
+use Rattle.std.specs.Options.{isSome}
+use Rattle.std.specs.declared.option.Option.{Option}
 use Rattle.std.specs.declared.option.Option.the-variants.{Some, None}
 use Rattle.plan.specs.declared.rows.Name.{Name}
 use Rattle.plan.specs.Rules.{spelt}
@@ -40,3 +42,11 @@ module _ {R : Type 0} (named : R → Name) (text word : List ℕ) where
   -- where no row is found, no row has the name
   pub found-none : (rows : List R) → found named text rows word ≡ None → (i : ℕ) → nth (map (λ r. spelt text (named r)) rows) i ≡ Some word → ⊥
   found-none rows e i at = found-from-none 0 rows e i at
+
+  -- so where the look-up tells that there is none
+  pub none-found : (rows : List R) → isSome (found named text rows word) ≡ false → (i : ℕ) → nth (map (λ r. spelt text (named r)) rows) i ≡ Some word → ⊥
+  none-found rows e = by (found named text rows word) refl e
+    where
+      by : (o : Option ℕ) → found named text rows word ≡ o → isSome o ≡ false → (i : ℕ) → nth (map (λ r. spelt text (named r)) rows) i ≡ Some word → ⊥
+      by (Some k) f e = absurd (true≢false e)
+      by None f e = found-none rows f

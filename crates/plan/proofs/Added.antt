@@ -2,7 +2,7 @@
 use mathlib.Core.List.{List, [], _∷_, _++_, map}
 use mathlib.Core.Logic.{_⊎_, inl, inr}
 use mathlib.Core.Path.{_≡_, refl, sym, ap, subst, _∙_}
-use Prim.Native.Nat.{ℕ, zero, suc, _+_, _<_}
+use Prim.Native.Nat.{ℕ, zero, suc, _+_, _<_, _≤_}
 use native.Mathlib.Omega.{arith}
 use lib.ListN.{length}
 use Rattle.std.proofs.shelf.Lists.{map-append}
@@ -48,3 +48,43 @@ once-added {X} xs x once new i j y a b = by (nth-added xs x i y a) (nth-added xs
 -- so of what the rows hold
 pub once-row : {R X : Type 0} (f : R → X) (rows : List R) (row : R) → Once (map f rows) → ((i : ℕ) → nth (map f rows) i ≡ Some (f row) → ⊥) → Once (map f (rows ++ row ∷ []))
 once-row f rows row once new = subst Once (sym (map-append f rows (row ∷ []))) (once-added (map f rows) (f row) once new)
+
+-- one more between two lists: what stands in the longer list stood there before, as far on or one less, or is the new one
+abbrev Moved : {X : Type 0} → List X → X → List X → ℕ → X → Type 0
+Moved xs x ys i y = ((j : ℕ) × (nth (xs ++ ys) j ≡ Some y) × (((i ≡ j) × (j < length xs)) ⊎ ((i ≡ j + 1) × (length xs ≤ j)))) ⊎ ((i ≡ length xs) × (y ≡ x))
+
+nth-inserted : {X : Type 0} (xs : List X) (x : X) (ys : List X) (i : ℕ) (y : X) → nth (xs ++ x ∷ ys) i ≡ Some y → Moved xs x ys i y
+nth-inserted [] x ys zero y e = inr (refl, sym (the-same e))
+nth-inserted [] x ys (suc i) y e = inl (i, e, inr (omega arith, omega arith))
+nth-inserted (z ∷ xs) x ys zero y e = inl (0, e, inl (refl, omega arith))
+nth-inserted (z ∷ xs) x ys (suc i) y e = by (nth-inserted xs x ys i y e)
+  where
+    on : (j : ℕ) → ((i ≡ j) × (j < length xs)) ⊎ ((i ≡ j + 1) × (length xs ≤ j)) → ((suc i ≡ suc j) × (suc j < suc (length xs))) ⊎ ((suc i ≡ suc j + 1) × (suc (length xs) ≤ suc j))
+    on j (inl k) = inl (ap suc (k .0), omega (arith, k .1))
+    on j (inr k) = inr (omega (arith, k .0), omega (arith, k .1))
+
+    by : Moved xs x ys i y → Moved (z ∷ xs) x ys (suc i) y
+    by (inl m) = inl (suc (m .0), m .1, on (m .0) (m .2))
+    by (inr m) = inr (ap suc (m .0), m .1)
+
+-- nothing stands twice in two lists with one more between them that is in neither
+pub once-between : {X : Type 0} (xs : List X) (x : X) (ys : List X) → Once (xs ++ ys) → ((i : ℕ) → nth (xs ++ ys) i ≡ Some x → ⊥) → Once (xs ++ x ∷ ys)
+once-between {X} xs x ys once new i j y a b = by (nth-inserted xs x ys i y a) (nth-inserted xs x ys j y b)
+  where
+    same : (k l : ℕ) → k ≡ l → ((i ≡ k) × (k < length xs)) ⊎ ((i ≡ k + 1) × (length xs ≤ k)) → ((j ≡ l) × (l < length xs)) ⊎ ((j ≡ l + 1) × (length xs ≤ l)) → i ≡ j
+    same k l e (inl m) (inl n) = omega (arith, e, m .0, n .0)
+    same k l e (inl m) (inr n) = absurd (omega (arith, e, m .1, n .1))
+    same k l e (inr m) (inl n) = absurd (omega (arith, e, m .1, n .1))
+    same k l e (inr m) (inr n) = omega (arith, e, m .0, n .0)
+
+    by : Moved xs x ys i y → Moved xs x ys j y → i ≡ j
+    by (inl m) (inl n) = same (m .0) (n .0) (once (m .0) (n .0) y (m .1) (n .1)) (m .2) (n .2)
+    by (inl m) (inr n) = absurd (new (m .0) (m .1 ∙ ap Some (n .1)))
+    by (inr m) (inl n) = absurd (new (n .0) (n .1 ∙ ap Some (m .1)))
+    by (inr m) (inr n) = m .0 ∙ sym (n .0)
+
+-- what is in neither of two lists is not in both together
+pub in-neither : {X : Type 0} (xs ys : List X) (x : X) → ((i : ℕ) → nth xs i ≡ Some x → ⊥) → ((i : ℕ) → nth ys i ≡ Some x → ⊥) → (i : ℕ) → nth (xs ++ ys) i ≡ Some x → ⊥
+in-neither [] ys x a b i e = b i e
+in-neither (z ∷ xs) ys x a b zero e = a 0 e
+in-neither (z ∷ xs) ys x a b (suc i) e = in-neither xs ys x (λ k. a (suc k)) b i e

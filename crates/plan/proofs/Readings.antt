@@ -14,11 +14,24 @@ use Rattle.plan.specs.declared.rows.Flow.{Flow}
 use Rattle.plan.specs.declared.rows.Item.{Item}
 use Rattle.plan.specs.Drafts.{Draft}
 use Rattle.plan.specs.Meaning.{meaning, binOf, flowOf, itemOf, parentIn, PlanBin, ofSome}
+use Rattle.plan.proofs.Added.{the-same}
+use Rattle.plan.proofs.Spans.{never-some}
 
 pub nth-map : {X Y : Type 0} (f : X → Y) (xs : List X) (i : ℕ) → mapped f (nth xs i) ≡ nth (map f xs) i
 nth-map f [] i = refl
 nth-map f (x ∷ xs) zero = refl
 nth-map f (x ∷ xs) (suc i) = nth-map f xs i
+
+-- what stands in a mapped list is made of what stands in the list
+pub record MadeOf {X Y : Type 0} (f : X → Y) (xs : List X) (i : ℕ) (y : Y) : Type 0 where
+  pub row : X
+  pub at : nth xs i ≡ Some row
+  pub is : f row ≡ y
+
+pub made-of : {X Y : Type 0} (f : X → Y) (xs : List X) (i : ℕ) (y : Y) → nth (map f xs) i ≡ Some y → MadeOf f xs i y
+made-of f [] i y e = never-some y e
+made-of f (x ∷ xs) zero y e = record { row = x; at = refl; is = the-same e }
+made-of f (x ∷ xs) (suc i) y e = let m = made-of f xs i y e in record { row = m .row; at = m .at; is = m .is }
 
 module _ (d : Draft) where
   pub bins-counted : length (d .bins) ≡ length (meaning d .bins)

@@ -166,7 +166,7 @@ deepest earlier (it ∷ its) = max (depthRun earlier (it .runs)) (deepest earlie
 abbrev pub itemsIn : List PlanItem → PlanFlow → List PlanItem
 itemsIn items f = between (f .first) (f .first + f .count) items
 
--- a flow that runs only tests has depth 1, any other one more than the deepest flow that it runs
+-- the depth of a flow: 1 where no item of it runs a flow, else one more than the largest depth among the flows run
 abbrev pub depthsFrom : List PlanItem → List ℕ → List PlanFlow → List ℕ
 depthsFrom items earlier [] = earlier
 depthsFrom items earlier (f ∷ fs) = depthsFrom items (earlier ++ (1 + deepest earlier (itemsIn items f)) ∷ []) fs

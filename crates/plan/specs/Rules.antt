@@ -79,7 +79,7 @@ pub record SortBin (m : Meaning) (i : ℕ) : Type 0 where
   pub is : nth (m .bins) i ≡ Some bin
   pub sorts : m .sortGroup ≡ Some (bin .group)
 
--- every leaf bin has a bin of the sort group at or above it
+-- climbing from a leaf bin one meets a bin of the sort group
 abbrev pub LeafSorted : Meaning → Type 0
 LeafSorted m = (i : ℕ) (b : PlanBin) → nth (m .bins) i ≡ Some b → b .leaf ≡ true → (j : ℕ) × AtOrAbove (m .bins) i j × SortBin m j
 
@@ -97,7 +97,7 @@ RunsEarlierFlow m = (f i t : ℕ) (flow : PlanFlow) (it : PlanItem) → nth (m .
 abbrev pub DepthFits : Meaning → Type 0
 DepthFits m = (f n : ℕ) → nth (depths m) f ≡ Some n → n ≤ 8
 
--- an item that runs a flow lists every value that the flow returns
+-- whatever a flow returns, the item that runs it lists
 abbrev pub ReturnListed : Meaning → Type 0
 ReturnListed m = (i t : ℕ) (it : PlanItem) (flow : PlanFlow) (v : Value) → nth (m .items) i ≡ Some it → it .runs ≡ RunsFlow t → nth (m .flows) t ≡ Some flow → Returns m flow v → Among (v .code) (allValues (it .clauses))
 
@@ -206,7 +206,7 @@ Keeps m = (m ≡ nothing) ⊎ Lawful m
 abbrev pub spelt : List ℕ → Name → List ℕ
 spelt text n = take (n .len) (drop (n .place) text)
 
--- a name is declared once among groups, among bins, among counters, among tests and flows together, and among the items of a flow
+-- no name twice within groups, within bins, within counters, within tests and flows taken together, within the items of one flow
 pub record NamesOnce (text : List ℕ) (d : Draft) : Type 0 where
   pub groups : Once (map (λ g. spelt text (g .name)) (d .groups))
   pub bins : Once (map (λ b. spelt text (b .name)) (d .bins))

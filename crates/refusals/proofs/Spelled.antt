@@ -27,7 +27,7 @@ use Rattle.grammar.specs.declared.fault.GrammarFault.the-variants.{NotAllowed}
 use Rattle.grammar.specs.declared.symbols.Found.{Found}
 use Rattle.grammar.specs.declared.symbols.Symbol.{Symbol}
 use Rattle.grammar.specs.Symbols.{sameSymbol}
-use Rattle.grammar.specs.Readers.{Parsed, Spot, taken, want, nameIn, symbolIn, wanted, expectIn}
+use Rattle.grammar.specs.Readers.{Parsed, Spot, taken, want, placed, nameIn, symbolIn, wanted, expectIn}
 
 abbrev pub NameAt : List ℕ → ℕ → Terminal → Type 0
 NameAt text p (t.name bs) = take (length bs) (drop p text) ≡ bs
@@ -51,15 +51,20 @@ read-is : {X : Type 0} {x y : X} {us vs : Tokens} → _≡_ {A = Parsed X} (Ok (
 read-is {X} {x} {y} {us} {vs} h = let e : _≡_ {A = X × Tokens} (x, us) (y, vs) = cc in (ap (λ v. v .0) e, ap (λ v. v .1) e)
 
 module _ (text : List ℕ) where
+  taken-leaves : {X Y : Type 0} (f : X → ℕ → Y) (o : Option X) (p : ℕ) (ts : Tokens) (v : Y) (us : Tokens) → taken f o p ts ≡ Ok (v, us) → NamesAt text ts → NamesAt text us
+  taken-leaves f (Some x) p ts v us h n = subst (NamesAt text) (read-is h .1) n
+  taken-leaves f None p ts v us h n = none-read h
+
   -- a reader of one token leaves the tokens behind it
   pub want-leaves : {X Y : Type 0} (kind : Terminal → Option X) (f : X → ℕ → Y) (ts : Tokens) (v : Y) (us : Tokens) → want kind f ts ≡ Ok (v, us) → NamesAt text ts → NamesAt text us
   want-leaves kind f (t.end p) v us h n = none-read h
   want-leaves kind f (t.fault e) v us h n = none-read h
-  want-leaves {X} {Y} kind f (t.token x p ts) v us h n = by (kind x) h
-    where
-      by : (o : Option X) → taken f o p ts ≡ Ok (v, us) → NamesAt text us
-      by (Some y) h = subst (NamesAt text) (read-is h .1) (n .1)
-      by None h = none-read h
+  want-leaves kind f (t.token x p ts) v us h n = taken-leaves f (kind x) p ts v us h (n .1)
+
+  pub placed-leaves : {X : Type 0} (kind : ℕ → Terminal → Option X) (ts : Tokens) (v : X) (us : Tokens) → placed kind ts ≡ Ok (v, us) → NamesAt text ts → NamesAt text us
+  placed-leaves kind (t.end p) v us h n = none-read h
+  placed-leaves kind (t.fault e) v us h n = none-read h
+  placed-leaves kind (t.token x p ts) v us h n = taken-leaves (λ y _. y) (kind p x) p ts v us h (n .1)
 
   pub expect-leaves : (s : Symbol) (ts : Tokens) (v : Unit {0}) (us : Tokens) → expectIn s ts ≡ Ok (v, us) → NamesAt text ts → NamesAt text us
   expect-leaves s ts v us h n = by (symbolIn ts) refl h

@@ -2,7 +2,6 @@
 
 ghost use mathlib.Core.Path.{_≡_};
 ghost use Rattle.tokens.specs.Faults.{told};
-use std::fmt;
 
 // Each case holds the place that is told.
 #[derive(Clone, Copy)]
@@ -38,37 +37,6 @@ impl TokenFault {
             TokenFault::ByteInString(place) => place,
             TokenFault::TooLong(place) => place,
             TokenFault::OpenString(place) => place,
-        }
-    }
-}
-
-pub impl fmt::Display for TokenFault as TokenFaultDisplay {
-    fn fmt<W: fmt::Write>(&self, f: &mut fmt::Formatter<W>) -> fmt::Result {
-        match self {
-            TokenFault::StrayByte(_) => {
-                write!(
-                    f,
-                    "no token begins with this byte; remove it, or put it into a string or a comment"
-                )
-            }
-            TokenFault::ByteInString(_) => {
-                write!(
-                    f,
-                    "a string holds only the bytes 32 to 126; write another character here"
-                )
-            }
-            TokenFault::TooLong(_) => {
-                write!(
-                    f,
-                    "this is too long or too large: a name, number or decimal has at most 32 bytes, a string at most 64, and a number is at most 2147483647"
-                )
-            }
-            TokenFault::OpenString(_) => {
-                write!(
-                    f,
-                    "this string is not closed; write its closing quote on the same line"
-                )
-            }
         }
     }
 }

@@ -6,7 +6,6 @@ mod scan;
 mod token;
 
 pub use fault::TokenFault;
-pub use fault::TokenFaultDisplay;
 pub use reader::Reader;
 pub use token::Placed;
 pub use token::Token;
