@@ -44,14 +44,14 @@ beside d = record { groups = refl; bins = refl; counters = refl; tests = refl; f
 beside-value : (v : Value) (d : Draft) → Beside d (withValue v d)
 beside-value v d = record { groups = refl; bins = refl; counters = refl; tests = refl; flows = refl; items = refl; sortGroup = refl; mainFlow = refl }
 
-beside-mention : (k : ℕ) (d : Draft) → Beside d (withMention k d)
+pub beside-mention : (k : ℕ) (d : Draft) → Beside d (withMention k d)
 beside-mention k d = record { groups = refl; bins = refl; counters = refl; tests = refl; flows = refl; items = refl; sortGroup = refl; mainFlow = refl }
 
 pub beside-then : {c d e : Draft} → Beside c d → Beside d e → Beside c e
 beside-then a b = record { groups = b .groups ∙ a .groups; bins = b .bins ∙ a .bins; counters = b .counters ∙ a .counters; tests = b .tests ∙ a .tests; flows = b .flows ∙ a .flows; items = b .items ∙ a .items; sortGroup = b .sortGroup ∙ a .sortGroup; mainFlow = b .mainFlow ∙ a .mainFlow }
 
 -- something is there
-have-passed : {X Z : Type 0} (o : Option X) (e : RuleFault) (next : X → Loaded Z) {z : Z × Tokens} → have o e next ≡ Ok z → (x : X) × (o ≡ Some x) × (next x ≡ Ok z)
+pub have-passed : {X Z : Type 0} (o : Option X) (e : RuleFault) (next : X → Loaded Z) {z : Z × Tokens} → have o e next ≡ Ok z → (x : X) × (o ≡ Some x) × (next x ≡ Ok z)
 have-passed (Some x) e next h = (x, refl, h)
 have-passed None e next h = no-fault h
 
@@ -70,7 +70,7 @@ value-beside first d ts more e us h =
     let next = parse-passed (anotherIn mk.OpenBrace (one .us)) (one .goes) in
     subst (Beside d) (ap (λ x. x .1) (accepted (next .goes) .0)) (listed-beside first d ts (one .v) (one .us) (one .is))
 
-values-beside : (first : ℕ) (d : Draft) (ts : Tokens) (e : Draft) (us : Tokens) → valuesIn first d ts ≡ Ok (e, us) → Beside d e
+pub values-beside : (first : ℕ) (d : Draft) (ts : Tokens) (e : Draft) (us : Tokens) → valuesIn first d ts ≡ Ok (e, us) → Beside d e
 values-beside first d ts e us h = many-keeps (valueTurn first) (Beside d) (λ s ts more t us k p. beside-then p (value-beside first s ts more t us k)) d ts e us h (beside d)
 
 mention-beside : (text : List ℕ) (from : ℕ) (d : Draft) (ts : Tokens) (e : Draft) (us : Tokens) → mentionIn text from d ts ≡ Ok (e, us) → Beside d e

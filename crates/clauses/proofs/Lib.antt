@@ -1,3 +1,5 @@
 mod Membership
 mod Whole
 pub mod Beside
+pub mod Kept
+pub mod Leaving

@@ -1,3 +1,6 @@
 pub mod Keeping
 pub mod Resolving
 pub mod Rows
+pub mod Following
+pub mod Kept
+pub mod Closed
