@@ -111,7 +111,7 @@ module _ (text : List ℕ) where
           subst (NamesAt text) (made .1) left,
         )
 
-  none-yet : (d : Draft) → Once (map (λ k. spelt text (k .name)) (d .counters)) → length (d .counters) ≤ 32 → CountersKept text d d
+  pub none-yet : (d : Draft) → Once (map (λ k. spelt text (k .name)) (d .counters)) → length (d .counters) ≤ 32 → CountersKept text d d
   none-yet d once fit = record {
     names = once;
     fit = fit;

@@ -69,7 +69,7 @@ pub record ClauseKept (bins : List Bin) (counters : ℕ) (mentions : List ℕ) (
   pub leaf : LeafSet bins (c .leaf)
   pub returns : ReturnsFit (c .next)
 
-clause-later : (bins : List Bin) (counters : ℕ) (ms ns : List ℕ) (c : Clause) → ClauseKept bins counters ms c → ClauseKept bins counters (ms ++ ns) c
+pub clause-later : (bins : List Bin) (counters : ℕ) (ms ns : List ℕ) (c : Clause) → ClauseKept bins counters ms c → ClauseKept bins counters (ms ++ ns) c
 clause-later bins counters ms ns c k =
     let same = sym (between-append (c .counters .from) (c .counters .to) ms ns (k .within)) in
     record {
@@ -326,7 +326,7 @@ pub record ItemKept (d : Draft) (values : List Value) (spans : List Span) (it : 
   pub runs : Known d (it .runs)
   pub returned : (f : ℕ) → it .runs ≡ RunsFlow f → itemsListed (rowsOf listed values) (d .clauses) (flowItems (d .items) (nth (d .flows) f)) ≡ true
 
-item-later : (d : Draft) (vs ws : List Value) (ss rs : List Span) (it : Item) → ItemKept d vs ss it → ItemKept d (vs ++ ws) (ss ++ rs) it
+pub item-later : (d : Draft) (vs ws : List Value) (ss rs : List Span) (it : Item) → ItemKept d vs ss it → ItemKept d (vs ++ ws) (ss ++ rs) it
 item-later d vs ws ss rs it k =
     let own = sym (between-append (k .listed .from) (k .listed .to) vs ws (k .listedWithin)) in
     let spans = sym (between-append (it .clauses .from) (it .clauses .to) ss rs (k .within)) in
@@ -366,7 +366,7 @@ known-before : (d s : Draft) → Same d s → (r : Runs) → Known s r → Known
 known-before d s o (RunsTest t) k = subst (λ l. t < length l) (o .tests) k
 known-before d s o (RunsFlow f) k = subst (λ l. f < length l) (o .flows) k
 
-between-map : {X Y : Type 0} (f : X → Y) (i j : ℕ) (xs : List X) → between i j (map f xs) ≡ map f (between i j xs)
+pub between-map : {X Y : Type 0} (f : X → Y) (i j : ℕ) (xs : List X) → between i j (map f xs) ≡ map f (between i j xs)
 between-map f i j xs = ap (take (j - i)) (drop-map f i xs) ∙ take-map f (j - i) (drop i xs)
 
 module _ (text : List ℕ) (d : Draft) (held : Held d) where

@@ -4,3 +4,7 @@ pub mod Rows
 pub mod Following
 pub mod Kept
 pub mod Closed
+pub mod All
+pub mod Joining
+pub mod Meant
+pub mod Told

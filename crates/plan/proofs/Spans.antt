@@ -51,7 +51,7 @@ nth-take-lt (suc n) [] j x e = never-some x e
 nth-take-lt (suc n) (y ∷ xs) zero x e = omega arith
 nth-take-lt (suc n) (y ∷ xs) (suc j) x e = let h = nth-take-lt n xs j x e in omega arith
 
-nth-drop : {X : Type 0} (k : ℕ) (xs : List X) (j : ℕ) → nth (drop k xs) j ≡ nth xs (k + j)
+pub nth-drop : {X : Type 0} (k : ℕ) (xs : List X) (j : ℕ) → nth (drop k xs) j ≡ nth xs (k + j)
 nth-drop zero xs j = let e : j ≡ 0 + j = omega arith in ap (nth xs) e
 nth-drop (suc k) [] j = refl
 nth-drop (suc k) (x ∷ xs) j = let e : suc (k + j) ≡ suc k + j = omega arith in nth-drop k xs j ∙ ap (nth (x ∷ xs)) e
