@@ -2,17 +2,15 @@ use crate::cases::CASES;
 use crate::cases::PLAN;
 use plan::Tables;
 use plan::part_of;
-use plan_file::file;
+use plan_file::read_text;
 use refusals::FinderDisplay;
 use std::alloc::Global;
 use std::test::*;
-use tokens::Reader;
 
 // What is read: the plan's name and how many groups, bins, counters, tests, flows, items and clauses; or the refusal.
 fn outcome(heap: Global, text: &[u8]) -> Result<String, Fail> {
     let mut t = Tables::reserved(heap)?;
-    let mut r = Reader::new(text);
-    match file(&mut r, text, &mut t) {
+    match read_text(text, &mut t) {
         Ok(title) => {
             let name = std::str::from_utf8(part_of(text, title))?;
             let groups = t.groups.len();

@@ -19,6 +19,8 @@ use Rattle.grammar.specs.declared.symbols.Symbol.the-variants as sy
 use Rattle.grammar.specs.Readers.{Spot, nameIn, decimalIn, symbolIn, expectIn, finishIn}
 use Rattle.plan.specs.declared.rows.Name.{Name}
 use Rattle.plan.specs.Drafts.{Draft, withMainFlow}
+use Rattle.plan.specs.Meaning.{meaning}
+use Rattle.plan.specs.Rules.{Lawful, NamesOnce, DepthsTold}
 use Rattle.names.specs.Names.{found}
 use Rattle.refusals.specs.declared.fault.LoadFault.{LoadFault}
 use Rattle.refusals.specs.declared.fault.LoadFault.the-variants.{Grammar, Rule}
@@ -110,3 +112,8 @@ fileIn text d ts =
 abbrev pub filed : Result Name LoadFault → Draft → Result (Name × Draft) LoadFault
 filed (Ok n) d = Ok (n, d)
 filed (Err e) d = Err e
+
+-- where the text is accepted, the tables keep every rule of a plan, have no name twice and tell the depths of their flows
+abbrev pub Kept : List ℕ → Result Name LoadFault → Draft → Type 0
+Kept text (Ok n) d = ∥ Lawful (meaning d) × NamesOnce text d × DepthsTold d ∥₁
+Kept text (Err e) d = Unit {0}

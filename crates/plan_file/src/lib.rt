@@ -5,3 +5,4 @@ mod sections;
 mod whole;
 
 pub use whole::file;
+pub use whole::read_text;
