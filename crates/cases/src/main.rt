@@ -4,6 +4,8 @@
 //! replace and the text that takes its place, parted by `|`. An empty text to replace stands for the whole plan.
 //! `<N:body>` is the body N times over, in which `%` is the number of the turn, from 0.
 
+#![tactic(auto)]
+
 mod expansion;
 mod trial;
 

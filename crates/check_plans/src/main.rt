@@ -3,6 +3,8 @@
 //! With `--tokens` it lists the tokens of the files that follow, one to a line: place, kind and text. It goes through all
 //! files, and ends with status 1 where one was refused or could not be read.
 
+#![tactic(auto)]
+
 mod listing;
 
 use complaints::Complaint;

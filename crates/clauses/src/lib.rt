@@ -1,5 +1,7 @@
 //! Clauses of a plan text: what an item does at the values that the clause lists.
 
+#![tactic(auto)]
+
 mod counter_list;
 mod leaf_bins;
 mod listed;

@@ -1,5 +1,7 @@
 //! Counters and tests of a plan.
 
+#![tactic(auto)]
+
 mod counter;
 mod test_block;
 

@@ -1,5 +1,7 @@
 //! The grammar's smallest parts: one token of a wanted kind at a time, or the refusal that it is not allowed there.
 
+#![tactic(auto)]
+
 mod fault;
 mod readers;
 mod symbols;

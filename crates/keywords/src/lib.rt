@@ -1,5 +1,7 @@
 //! The twenty keywords of a plan text, and the one function that tells a word from them.
 
+#![tactic(auto)]
+
 ghost use Rattle.std.specs.Prelude.{◌≡◌};
 ghost use Rattle.keywords.specs.Keywords.{spelt, keywords, first_spelt, keyword, Recognised, same_keyword};
 ghost use Rattle.std.specs.Cmp.Rules.{comparing};

@@ -1,5 +1,7 @@
 //! A test plan as tables of rows, and the rules that it keeps.
 
+#![tactic(auto)]
+
 mod parts;
 mod plan;
 mod rows;

@@ -1,5 +1,7 @@
 //! The whole of a plan text: header, bins, counters, tests, flows, main flow, and the end.
 
+#![tactic(auto)]
+
 mod header;
 mod sections;
 mod whole;

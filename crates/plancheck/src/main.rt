@@ -3,6 +3,8 @@
 //! It lists the tokens of the file, `plan.tpl` where none is named, one to a line: place, kind and text. At the first
 //! fault it says where it is, what it is, and what to mend, and ends with status 1.
 
+#![tactic(auto)]
+
 mod complaint;
 
 use text_bytes::position_of;

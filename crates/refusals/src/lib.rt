@@ -1,5 +1,7 @@
 //! Why a plan text is refused: the fault of each layer whole inside that of the layer above, with number, place and finder.
 
+#![tactic(auto)]
+
 mod fault;
 mod sentence;
 mod telling;

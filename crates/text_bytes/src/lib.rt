@@ -1,5 +1,7 @@
 //! The bytes of a plan text: their kinds, the runs and gaps that they form, and the line and column of a place.
 
+#![tactic(auto)]
+
 mod kinds;
 mod position;
 mod runs;

@@ -1,5 +1,7 @@
 //! The token reader: a plan text as tokens with their places, up to its end or its first fault.
 
+#![tactic(auto)]
+
 mod fault;
 mod reader;
 mod scan;

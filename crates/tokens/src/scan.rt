@@ -7,8 +7,8 @@ ghost use Rattle.tokens.specs.Answers.{seen, Forward};
 
 use crate::fault::TokenFault;
 use crate::token::{Placed, Token};
-use text_bytes::{ByteKind, begins_name, is_digit, mark_of, number_of, run_end};
 use keywords::keyword_of;
+use text_bytes::{ByteKind, begins_name, is_digit, mark_of, number_of, run_end};
 
 // The most bytes of a name, a number or a decimal.
 const LONGEST_WORD: usize = 32;

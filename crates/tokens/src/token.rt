@@ -1,7 +1,7 @@
 // Tokens and their places.
 
-use text_bytes::Mark;
 use keywords::Keyword;
+use text_bytes::Mark;
 
 // A token of the text. A name, a decimal and a string are parts of the text itself, the string without its quotes.
 #[derive(Clone, Copy)]

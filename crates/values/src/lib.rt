@@ -1,5 +1,7 @@
 //! Values of a plan text: a number with or without a minus, from -32768 to 32767.
 
+#![tactic(auto)]
+
 ghost use Rattle.std.specs.Prelude.{◌≡◌, ℕ, ◌<◌, ◌≤◌, OnOk};
 ghost use Rattle.tokens.specs.Terminals.{count};
 ghost use Rattle.tokens.specs.Reading.{rest};

@@ -1,5 +1,7 @@
 //! Cases of the sample plan that are proved, as one list.
 
+#![tactic(auto)]
+
 ghost use Rattle.std.specs.Prelude.{◌≡◌, length};
 ghost use Rattle.worked.specs.Worked.{cases, EachHolds};
 

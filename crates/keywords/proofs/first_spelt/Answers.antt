@@ -12,8 +12,8 @@ one_on ks i word h = at_drop_more (λ l. first_spelt l word) ks i Version h
 none_left : (ks : List Keyword) (i : ℕ) (word : List ℕ) → length ks ≤ i → first_spelt (drop i ks) word ≡ None
 none_left ks i word h = at_drop_all (λ l. first_spelt l word) ks i h
 
-pub returns-then-same-bytes : goal.returns-then-same-bytes
-returns-then-same-bytes c = search (rules, one_on)
+pub returns-then-same_bytes : goal.returns-then-same_bytes
+returns-then-same_bytes c = search (rules, one_on)
 
 pub loop-k-preserved : goal.loop-k-preserved
 loop-k-preserved c = search (rules, one_on)

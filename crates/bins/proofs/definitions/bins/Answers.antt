@@ -2,9 +2,9 @@ use Rattle.std.proofs.Common.{rules}
 use Rattle.bins.specs.Bins.{bins_in}
 use Rattle.bins.proofs.definitions.bins.Goals as goal
 
-pub returns-in-err-expect : goal.returns-in-err-expect
+pub returns-in_err-expect : goal.returns-in_err-expect
 unfolding bins_in
-returns-in-err-expect c = search rules
+returns-in_err-expect c = search rules
 
 pub returns : goal.returns
 unfolding bins_in

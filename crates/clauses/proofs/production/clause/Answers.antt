@@ -5,26 +5,26 @@ use Rattle.clauses.specs.Clauses.{clause_in}
 use Rattle.clauses.proofs.Whole.{clause_read}
 use Rattle.clauses.proofs.production.clause.Goals as goal
 
-pub returns-then-len-ge-MOST-CLAUSES : goal.returns-then-len-ge-MOST-CLAUSES
+pub returns-then-len-ge-MOST_CLAUSES : goal.returns-then-len-ge-MOST_CLAUSES
 unfolding clause_in
-returns-then-len-ge-MOST-CLAUSES c = search rules
+returns-then-len-ge-MOST_CLAUSES c = search rules
 
-pub returns-in-err-values : goal.returns-in-err-values
+pub returns-in_err-values : goal.returns-in_err-values
 unfolding clause_in
-returns-in-err-values c = search rules
+returns-in_err-values c = search rules
 
-pub returns-in-err-row : goal.returns-in-err-row
+pub returns-in_err-row : goal.returns-in_err-row
 unfolding clause_in
-returns-in-err-row c = search rules
+returns-in_err-row c = search rules
 
 pub returns : goal.returns
 returns c =
     let room : length (drafted c.args.t.now).clauses < 1024 = omega (arith, c.args.t.now.clauses.ok.0) in
     let from = c.len-from.ensures ∙ c.args.t.now.values.ok.0 in
     let to = c.len-2.ensures ∙ c.values.new.t.values.ok.0 in
-    let values-read = c.in-ok-values.ensures in
-    let body-read = c.in-ok-row.ensures in
+    let values-read = c.in_ok-values.ensures in
+    let body-read = c.in_ok-row.ensures in
     record {
-      told = ap (λ d. Ok (d, rest c.body.new.r)) c.add-clause.ensures ∙ clause_read c.args.text.now c.args.place c.args.first (drafted c.args.t.now) (rest c.args.r.now) (drafted c.values.new.t) (drafted c.body.new.t) c.in-ok-row.row (rest c.values.new.r) (rest c.body.new.r) c.len-from.result c.len-2.result room from to values-read.told body-read.told;
+      told = ap (λ d. Ok (d, rest c.body.new.r)) c.add_clause.ensures ∙ clause_read c.args.text.now c.args.place c.args.first (drafted c.args.t.now) (rest c.args.r.now) (drafted c.values.new.t) (drafted c.body.new.t) c.in_ok-row.row (rest c.values.new.r) (rest c.body.new.r) c.len-from.result c.len-2.result room from to values-read.told body-read.told;
       on = omega (arith, values-read.on, body-read.on);
     }

@@ -5,7 +5,7 @@ use Rattle.flows.proofs.checks.deepest_run.Goals.{then-depth-most, else-depth-mo
 
 pub loop-it-preserved : goal.loop-it-preserved
 loop-it-preserved c =
-    let one = deepest_one _ _ _ _ _ c.loop-it-test.true c.depth-of-depth.ensures in
+    let one = deepest_one _ _ _ _ _ c.loop-it-test.true c.depth_of-depth.ensures in
     elim c.if-depth-most.branch [ then-depth-most w ↦ omega (arith, one, w.most-is, c.loop-it.invariant) | else-depth-most w ↦ omega (arith, one, w.most-is, c.loop-it.invariant) ]
 
 pub returns : goal.returns

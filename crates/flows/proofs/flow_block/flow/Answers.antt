@@ -6,27 +6,27 @@ use Rattle.flows.specs.Flows.{flow_in}
 use Rattle.flows.proofs.Keeping.{items_added, items_behind}
 use Rattle.flows.proofs.flow_block.flow.Goals as goal
 
-pub returns-then-len-ge-MOST-FLOWS : goal.returns-then-len-ge-MOST-FLOWS
+pub returns-then-len-ge-MOST_FLOWS : goal.returns-then-len-ge-MOST_FLOWS
 unfolding flow_in
-returns-then-len-ge-MOST-FLOWS c = search rules
+returns-then-len-ge-MOST_FLOWS c = search rules
 
-pub returns-in-err-n : goal.returns-in-err-n
+pub returns-in_err-n : goal.returns-in_err-n
 unfolding flow_in
-returns-in-err-n c = search rules
+returns-in_err-n c = search rules
 
-pub returns-then-is-runnable : goal.returns-then-is-runnable
+pub returns-then-is_runnable : goal.returns-then-is_runnable
 unfolding flow_in
-returns-then-is-runnable c = search rules
+returns-then-is_runnable c = search rules
 
-pub returns-in-err-braced-items : goal.returns-in-err-braced-items
+pub returns-in_err-braced_items : goal.returns-in_err-braced_items
 unfolding flow_in
-returns-in-err-braced-items c = search rules
+returns-in_err-braced_items c = search rules
 
-pub close-flow-requires : goal.close-flow-requires
-close-flow-requires c =
+pub close_flow-requires : goal.close_flow-requires
+close_flow-requires c =
     let d = drafted c.args.t.now in
-    let e = drafted c.braced-items.new.t in
-    let p = items_added c.args.text.now d (rest c.name.new.r) e (rest c.braced-items.new.r) (sym c.in-ok-braced-items.ensures.told) in
+    let e = drafted c.braced_items.new.t in
+    let p = items_added c.args.text.now d (rest c.name.new.r) e (rest c.braced_items.new.r) (sym c.in_ok-braced_items.ensures.told) in
     let first : c.len-first.result ≡ length d.items = c.len-first.ensures ∙ c.args.t.now.items.ok.0 in
     let rows : drop c.len-first.result e.items ≡ p.more = ap (λ n. drop n e.items) first ∙ items_behind p in
     record {
@@ -39,6 +39,6 @@ pub returns : goal.returns
 unfolding flow_in
 returns c = search rules
 
-pub returns-in-err-close-flow : goal.returns-in-err-close-flow
+pub returns-in_err-close_flow : goal.returns-in_err-close_flow
 unfolding flow_in
-returns-in-err-close-flow c = search rules
+returns-in_err-close_flow c = search rules

@@ -8,16 +8,16 @@ loop-init c = (going _ _ _, omega arith)
 
 pub loop-preserved : goal.loop-preserved
 loop-preserved c =
-    let turn = c.in-ok-item-turn.ensures in
+    let turn = c.in_ok-item_turn.ensures in
     turned _ c.loop.invariant _ turn.told turn.on c.if-branch.true
 
 pub returns : goal.returns
 returns c =
-    let turn = c.in-ok-item-turn.ensures in
+    let turn = c.in_ok-item_turn.ensures in
     let end = settled _ c.loop.invariant _ turn.told turn.on c.if-branch.false in
     record { told = end.0; on = end.1 }
 
-pub returns-in-err-item-turn : goal.returns-in-err-item-turn
-returns-in-err-item-turn c =
-    let p = err_from_is_err_and c.from-residual.result c.from-residual.ensures.1 in
-    rw (p.1, p.2) (record { told = stops _ c.loop.invariant.0 _ (sym c.in-err-item-turn.ensures.told); on = tt })
+pub returns-in_err-item_turn : goal.returns-in_err-item_turn
+returns-in_err-item_turn c =
+    let p = err_from_is_err_and c.from_residual.result c.from_residual.ensures.1 in
+    rw (p.1, p.2) (record { told = stops _ c.loop.invariant.0 _ (sym c.in_err-item_turn.ensures.told); on = tt })

@@ -15,11 +15,11 @@ module _ {R : Type 0} (named : R → Name) (text : List ℕ) (rows : List R) (i 
   none_left : length rows ≤ i → found_from i named text (drop i rows) word ≡ None
   none_left h = at_drop_all (λ l. found_from i named text l word) rows i h
 
-pub returns-then-has-name : goal.returns-then-has-name
-returns-then-has-name g c = sym (looked g.T.Named.named _ _ _ _ _ true c.loop-i-test.true c.index-rows-i.is c.if-has-name.ensures) ∙ c.loop-i.invariant
+pub returns-then-has_name : goal.returns-then-has_name
+returns-then-has_name g c = sym (looked g.T.Named.named _ _ _ _ _ true c.loop-i-test.true c.index-rows-i.is c.if-has_name.ensures) ∙ c.loop-i.invariant
 
 pub loop-i-preserved : goal.loop-i-preserved
-loop-i-preserved g c = sym (looked g.T.Named.named _ _ _ _ _ false c.loop-i-test.true c.index-rows-i.is c.if-has-name.ensures) ∙ c.loop-i.invariant
+loop-i-preserved g c = sym (looked g.T.Named.named _ _ _ _ _ false c.loop-i-test.true c.index-rows-i.is c.if-has_name.ensures) ∙ c.loop-i.invariant
 
 pub returns : goal.returns
 returns g c = sym (none_left g.T.Named.named _ _ _ _ c.loop-i-test.false) ∙ c.loop-i.invariant

@@ -6,18 +6,18 @@ pub returns : goal.returns
 unfolding file_in
 returns c = search rules
 
-pub returns-in-err-title : goal.returns-in-err-title
+pub returns-in_err-title : goal.returns-in_err-title
 unfolding file_in
-returns-in-err-title c = search rules
+returns-in_err-title c = search rules
 
-pub returns-in-err-bins : goal.returns-in-err-bins
+pub returns-in_err-bins : goal.returns-in_err-bins
 unfolding file_in
-returns-in-err-bins c = search rules
+returns-in_err-bins c = search rules
 
-pub returns-in-err-sections : goal.returns-in-err-sections
+pub returns-in_err-sections : goal.returns-in_err-sections
 unfolding file_in
-returns-in-err-sections c = search rules
+returns-in_err-sections c = search rules
 
-pub returns-in-err-finish : goal.returns-in-err-finish
+pub returns-in_err-finish : goal.returns-in_err-finish
 unfolding file_in
-returns-in-err-finish c = search rules
+returns-in_err-finish c = search rules

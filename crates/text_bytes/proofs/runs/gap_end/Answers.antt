@@ -9,8 +9,8 @@ in_comment xs i h = at_drop_more (gap true) xs i 0 h
 outside : (xs : List ℕ) (i : ℕ) → i < length xs → gap false (drop i xs) ≡ cond (eqb (get_or xs i 0) 35) (1 + gap true (drop (i + 1) xs)) (cond (blank (get_or xs i 0)) (1 + gap false (drop (i + 1) xs)) 0)
 outside xs i h = at_drop_more (gap false) xs i 0 h
 
-pub returns-then-not-is-blank : goal.returns-then-not-is-blank
-returns-then-not-is-blank c = search (rules, outside)
+pub returns-then-not-is_blank : goal.returns-then-not-is_blank
+returns-then-not-is_blank c = search (rules, outside)
 
 pub loop-i-preserved : goal.loop-i-preserved
 loop-i-preserved c = search (rules, in_comment, outside)

@@ -5,8 +5,8 @@ use Rattle.text_bytes.proofs.runs.run_end.Goals as goal
 pub loop-end-preserved : goal.loop-end-preserved
 loop-end-preserved c = search (rules, prefix_len-drop_yes)
 
-pub returns-else-is-of-kind : goal.returns-else-is-of-kind
-returns-else-is-of-kind c = search (rules, prefix_len-drop_no)
+pub returns-else-is_of_kind : goal.returns-else-is_of_kind
+returns-else-is_of_kind c = search (rules, prefix_len-drop_no)
 
 pub returns-after-loop-end : goal.returns-after-loop-end
 returns-after-loop-end c = search (rules, prefix_len-drop_all)

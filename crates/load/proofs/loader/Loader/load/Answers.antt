@@ -3,5 +3,5 @@ use Rattle.load.proofs.loader.Loader.load.Goals as goal
 
 pub returns : goal.returns
 returns c =
-    let e = c.load-whole.ensures in
-    record { exactly = load_exactly c.args.text.now c.args.plan.now c.load-whole.result _ e.loads; loads = e.loads; within = e.within }
+    let e = c.load_whole.ensures in
+    record { exactly = load_exactly c.args.text.now c.args.plan.now c.load_whole.result _ e.loads; loads = e.loads; within = e.within }

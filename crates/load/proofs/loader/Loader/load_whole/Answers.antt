@@ -9,10 +9,10 @@ pub invariant-of-plan : goal.invariant-of-plan
 invariant-of-plan c =
     let tables = c.swap.ensures.y-after in
     let bytes = c.swap-2.ensures.y-after in
-    let text = sym (ap vec_items bytes ∙ c.copy-text.ensures.same) in
-    let kept = c.in-ok-title.ensures.kept in
+    let text = sym (ap vec_items bytes ∙ c.copy_text.ensures.same) in
+    let kept = c.in_ok-title.ensures.kept in
     let names = subst (λ t. ∥ NamesOnce t (drafted c.read.new.self.tables) ∥₁) text (plan_names kept) in (
-      subst (λ v. 65536 ≤ vec_capacity v) (sym bytes) c.copy-text.ensures.room,
+      subst (λ v. 65536 ≤ vec_capacity v) (sym bytes) c.copy_text.ensures.room,
       (
         subst (λ t. ∥ Keeps (meaning (drafted t)) ∥₁) (sym tables) (plan_keeps kept),
         (

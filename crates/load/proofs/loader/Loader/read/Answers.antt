@@ -7,9 +7,9 @@ pub returns-then-text-eq0 : goal.returns-then-text-eq0
 unfolding loaded
 returns-then-text-eq0 c = search rules
 
-pub returns-then-text-gt-MOST-BYTES : goal.returns-then-text-gt-MOST-BYTES
+pub returns-then-text-gt-MOST_BYTES : goal.returns-then-text-gt-MOST_BYTES
 unfolding loaded
-returns-then-text-gt-MOST-BYTES c = search rules
+returns-then-text-gt-MOST_BYTES c = search rules
 
 pub returns : goal.returns
 returns c =
@@ -17,11 +17,11 @@ returns c =
     let some : eqb (length text) 0 ≡ false = search rules in
     let few : ltb 65536 (length text) ≡ false = search rules in
     let small : length text ≤ 65536 = search rules in
-    let e = c.read-text.ensures in
+    let e = c.read_text.ensures in
     record {
       told = e.told ∙ sym (read_whole text some few);
       kept = e.kept;
       within = e.near;
-      small = given_so c.read-text.result small;
-      near = place_nearer c.read-text.result small e.near;
+      small = given_so c.read_text.result small;
+      near = place_nearer c.read_text.result small e.near;
     }

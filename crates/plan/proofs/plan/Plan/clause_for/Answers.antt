@@ -9,7 +9,7 @@ pub returns-in-Some : goal.returns-in-Some
 returns-in-Some c =
     let d = draft_of c.args.self.now in
     let it = c.in-Some.it in
-    let sought : c.seek-clause.result ≡ seek_clause d.values c.args.code it.clauses.from (rows_of it.clauses d.clauses) = search rules in
+    let sought : c.seek_clause.result ≡ seek_clause d.values c.args.code it.clauses.from (rows_of it.clauses d.clauses) = search rules in
     let number = number_of d c.args.code c.args.item it _ c.in-Some.ensures.held sought in
     record { number = number; meant = ap (clause_meant d) number ∙ number_meant d c.args.code c.args.item }
 
