@@ -3,10 +3,10 @@
 use crate::excerpt::{Excerpt, excerpt_at};
 use crate::rules::say_rule;
 use crate::tokens_said::{say_not_allowed, say_token};
-use text_bytes::{Position, position_of};
 use grammar::GrammarFault;
 use refusals::LoadFault;
 use std::fmt;
+use text_bytes::{Position, position_of};
 
 #[derive(Clone, Copy)]
 pub struct Complaint<'a> {

@@ -2,8 +2,8 @@
 
 ghost use Rattle.std.specs.Prelude.{◌≤◌, length};
 
-use text_bytes::{ByteKind, begins_name, is_digit, run_end};
 use std::fmt;
+use text_bytes::{ByteKind, begins_name, is_digit, run_end};
 
 // What stands at a place of the text.
 #[derive(Clone, Copy)]

@@ -5,8 +5,8 @@ ghost use Rattle.grammar.specs.Symbols.{same_symbol};
 ghost use Rattle.std.specs.Cmp.Rules.{comparing};
 ghost use Rattle.std.proofs.Common.{rules};
 
-use text_bytes::Mark;
 use keywords::Keyword;
+use text_bytes::Mark;
 
 #[derive(Clone, Copy)]
 pub enum Symbol {

@@ -1,7 +1,7 @@
 // What to mend, in words for the person who wrote the plan.
 
-use text_bytes::{begins_name, is_digit};
 use std::fmt;
+use text_bytes::{begins_name, is_digit};
 use tokens::TokenFault;
 
 #[derive(Clone, Copy)]

@@ -7,9 +7,9 @@
 
 mod complaint;
 
-use text_bytes::position_of;
 use complaint::Complaint;
 use std::{env, fs, io};
+use text_bytes::position_of;
 use tokens::{Placed, Reader, Token, TokenFault};
 
 // What came of a file.

@@ -1,6 +1,6 @@
 use crate::listing::listing;
-use text_bytes::position_of;
 use std::test::Fail;
+use text_bytes::position_of;
 
 const TEXTS: [(&[u8], &str); 36] = [
     (b"", "0 end"),
