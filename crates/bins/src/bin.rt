@@ -7,11 +7,11 @@ ghost use Rattle.plan.specs.Drafts.{drafted};
 ghost use Rattle.refusals.specs.Steps.{ended};
 ghost use Rattle.bins.specs.Bins.{has_number, number_taken, bin_number_in, leaf_at, parent_in, bin_in};
 
-use text_bytes::Mark;
 use grammar::{GrammarFault, Symbol, any_symbol, expect, name, number, string};
 use names::find;
 use plan::{Bin, MOST_BINS, Name, Tables};
 use refusals::{LoadFault, RuleFault};
+use text_bytes::Mark;
 use tokens::Reader;
 
 fn has_number(bin: &Bin, group: usize, number: u32) -> bool

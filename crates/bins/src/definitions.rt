@@ -9,12 +9,12 @@ ghost use Rattle.bins.specs.Bins.{group_turn, sort_group_in, definitions_in, bin
 
 use crate::group::group;
 use crate::sorting::first_unsorted;
-use text_bytes::Mark;
 use grammar::{Found, GrammarFault, Symbol, any_symbol, expect, name};
 use keywords::Keyword;
 use names::find;
 use plan::Tables;
 use refusals::{LoadFault, RuleFault};
+use text_bytes::Mark;
 use tokens::Reader;
 
 // A group and the symbol behind it, where one begins.

@@ -8,12 +8,12 @@ ghost use Rattle.refusals.specs.Steps.{ended, many};
 ghost use Rattle.bins.specs.Bins.{begins_bin, bin_turn, group_in};
 
 use crate::bin::bin;
-use text_bytes::Mark;
 use grammar::{Found, GrammarFault, Symbol, any_symbol, expect, name};
 use keywords::Keyword;
 use names::find;
 use plan::{Group, MOST_GROUPS, Name, Tables};
 use refusals::{LoadFault, RuleFault};
+use text_bytes::Mark;
 use tokens::Reader;
 
 fn begins_bin(s: Symbol) -> bool

@@ -12,6 +12,7 @@ use listing::list_tokens;
 use load::Loader;
 use plan::Plan;
 use refusals::LoadFault;
+use std::process::ExitCode;
 use std::{env, fs, io};
 
 // What is wanted of a file.
@@ -109,9 +110,9 @@ fn run(rt: &HostRuntime) -> anyhow::Result<Outcome> {
     Ok(outcome)
 }
 
-fn main(rt: HostRuntime) -> Result<(), Outcome> {
-    match run(&rt) {
-        Ok(Outcome::Well) => Ok(()),
-        _ => Err(Outcome::Refused),
+fn main(rt: HostRuntime) -> anyhow::Result<ExitCode> {
+    match run(&rt)? {
+        Outcome::Well => Ok(ExitCode::SUCCESS),
+        _ => Ok(ExitCode::FAILURE),
     }
 }

@@ -9,12 +9,12 @@ ghost use Rattle.clauses.specs.Clauses.{mention_in, mention_turn, mentions_in, c
 
 use crate::listed::names_counter;
 use crate::symbols::{another, is_keyword};
-use text_bytes::Mark;
 use grammar::{Found, any_symbol, name};
 use keywords::Keyword;
 use names::find;
 use plan::{MOST_MENTIONS, Tables};
 use refusals::{LoadFault, RuleFault};
+use text_bytes::Mark;
 use tokens::Reader;
 
 // The name of a counter that the clause does not name yet.

@@ -9,12 +9,12 @@ ghost use Rattle.refusals.specs.Steps.{ended};
 ghost use Rattle.clauses.specs.Clauses.{leaf_of, leaf_in, set_bin_in};
 
 use crate::symbols::is_keyword;
-use text_bytes::Mark;
 use grammar::{Found, Symbol, any_symbol, expect, name};
 use keywords::Keyword;
 use names::find;
 use plan::{Bin, Tables};
 use refusals::{LoadFault, RuleFault};
+use text_bytes::Mark;
 use tokens::Reader;
 
 // Whether the bin of this number is a leaf bin of the group.

@@ -12,10 +12,10 @@ use crate::leaf_bins::set_bin;
 use crate::value_list::values;
 use crate::verdicts::verdict;
 use crate::ways::next;
-use text_bytes::Mark;
 use grammar::{Found, Symbol, any_symbol, expect};
 use plan::{Clause, MOST_CLAUSES, Next, Span, Tables};
 use refusals::{LoadFault, RuleFault};
+use text_bytes::Mark;
 use tokens::Reader;
 
 // [SetBin ..] (GoTo .. | Return ..) }

@@ -6,9 +6,9 @@ ghost use Rattle.tokens.specs.Reading.{rest};
 ghost use Rattle.grammar.specs.Readers.{left};
 ghost use Rattle.refusals.specs.Shapes.{is_keyword, another_in};
 
-use text_bytes::Mark;
 use grammar::{Found, GrammarFault, Symbol, any_symbol};
 use keywords::Keyword;
+use text_bytes::Mark;
 use tokens::Reader;
 
 pub fn is_keyword(f: Found, k: Keyword) -> bool

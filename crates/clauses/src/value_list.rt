@@ -9,10 +9,10 @@ ghost use Rattle.clauses.specs.Clauses.{start_in, listed_in, value_turn, values_
 
 use crate::listed::lists_value;
 use crate::symbols::another;
-use text_bytes::Mark;
 use grammar::{ValueStart, value_start};
 use plan::{MOST_VALUES, Tables};
 use refusals::{LoadFault, RuleFault};
+use text_bytes::Mark;
 use tokens::Reader;
 use values::value_from;
 

@@ -7,11 +7,11 @@ ghost use Rattle.refusals.specs.Steps.{ended};
 ghost use Rattle.clauses.specs.Clauses.{verdict_of, property_in, verdict_in};
 
 use crate::symbols::is_keyword;
-use text_bytes::{Mark, same_bytes};
 use grammar::{Found, Symbol, any_symbol, expect, string};
 use keywords::Keyword;
 use plan::Verdict;
 use refusals::{LoadFault, RuleFault};
+use text_bytes::{Mark, same_bytes};
 use tokens::Reader;
 
 fn verdict_of(bytes: &[u8]) -> Option<Verdict>

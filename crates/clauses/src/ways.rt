@@ -7,11 +7,11 @@ ghost use Rattle.refusals.specs.Steps.{ended};
 ghost use Rattle.clauses.specs.Clauses.{go_to_in, return_in, next_in};
 
 use crate::symbols::is_keyword;
-use text_bytes::Mark;
 use grammar::{Found, GrammarFault, Symbol, expect, name};
 use keywords::Keyword;
 use plan::Next;
 use refusals::LoadFault;
+use text_bytes::Mark;
 use tokens::Reader;
 use values::value;
 

@@ -7,11 +7,11 @@ ghost use Rattle.plan.specs.Drafts.{drafted};
 ghost use Rattle.refusals.specs.Steps.{ended, many};
 ghost use Rattle.declarations.specs.Counters.{another_in, counter_turn, counters_in};
 
-use text_bytes::Mark;
 use grammar::{GrammarFault, Symbol, any_symbol, expect, name};
 use names::find;
 use plan::{Counter, MOST_COUNTERS, Name, Tables};
 use refusals::{LoadFault, RuleFault};
+use text_bytes::Mark;
 use tokens::Reader;
 
 // Whether another name follows, behind a comma, or the end, a closing brace.

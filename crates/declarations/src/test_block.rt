@@ -7,11 +7,11 @@ ghost use Rattle.plan.specs.Drafts.{drafted};
 ghost use Rattle.refusals.specs.Steps.{ended, many};
 ghost use Rattle.declarations.specs.Tests.{name_known, test_name_in, setting_in, setter_turn, setters_in, test_in};
 
-use text_bytes::Mark;
 use grammar::{Setting, Symbol, expect, name, name_or_close, setter_value};
 use names::find;
 use plan::{Flow, MOST_TESTS, Name, Tables, Test};
 use refusals::{LoadFault, RuleFault};
+use text_bytes::Mark;
 use tokens::Reader;
 use values::value_from;
 

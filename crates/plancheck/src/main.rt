@@ -8,6 +8,7 @@
 mod complaint;
 
 use complaint::Complaint;
+use std::process::ExitCode;
 use std::{env, fs, io};
 use text_bytes::position_of;
 use tokens::{Placed, Reader, Token, TokenFault};
@@ -107,10 +108,9 @@ fn run(rt: &HostRuntime) -> anyhow::Result<Outcome> {
     }
 }
 
-fn main(rt: HostRuntime) -> Result<(), Outcome> {
-    match run(&rt) {
-        Ok(Outcome::Listed) => Ok(()),
-        Ok(outcome) => Err(outcome),
-        Err(_) => Err(Outcome::Unreadable),
+fn main(rt: HostRuntime) -> anyhow::Result<ExitCode> {
+    match run(&rt)? {
+        Outcome::Listed => Ok(ExitCode::SUCCESS),
+        _ => Ok(ExitCode::FAILURE),
     }
 }
