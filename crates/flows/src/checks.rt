@@ -6,10 +6,10 @@ ghost use Rattle.plan.specs.Meaning.{rows_of, code_of};
 ghost use Rattle.plan.specs.Meaning.{lists as listed};
 ghost use Rattle.flows.specs.Checks.{return_listed, clauses_listed, items_listed, flow_items, depth_in, depth_of, deepest, word_at, next_resolved, resolved_from, become};
 
-use text_bytes::{ByteKind, run_end};
 use names::find;
 use plan::{Clause, Flow, Item, Next, Runs, Span, Value};
 use refusals::{LoadFault, RuleFault};
+use text_bytes::{ByteKind, run_end};
 
 // The rows of a span, as far as the table goes.
 pub fn rows_of<T>(rows: &[T], span: Span) -> &[T]

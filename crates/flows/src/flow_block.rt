@@ -10,12 +10,12 @@ ghost use Rattle.flows.specs.Flows.{item_turn, items_in, runnable, closed, flow_
 
 use crate::checks::{deepest_run, resolve, rows_from};
 use crate::items::item;
-use text_bytes::Mark;
 use grammar::{Found, GrammarFault, Symbol, any_symbol, expect, name};
 use keywords::Keyword;
 use names::find;
 use plan::{Flow, MOST_FLOWS, Name, Span, Tables};
 use refusals::{LoadFault, RuleFault};
+use text_bytes::Mark;
 use tokens::Reader;
 
 // An item and the symbol behind it, where one begins.

@@ -8,13 +8,13 @@ ghost use Rattle.refusals.specs.Steps.{ended, many};
 ghost use Rattle.flows.specs.Flows.{clause_turn, clauses_in, runs_in, run_listed, item_in};
 
 use crate::checks::{depth_at, items_listed, items_of, rows_from};
-use text_bytes::Mark;
 use clauses::clause;
 use grammar::{Found, GrammarFault, Symbol, any_symbol, expect, name};
 use keywords::Keyword;
 use names::find;
 use plan::{Item, MOST_ITEMS, Name, Runs, Span, Tables};
 use refusals::{LoadFault, RuleFault};
+use text_bytes::Mark;
 use tokens::Reader;
 
 // The depth of flows that are run; the flow that runs one is one deeper.

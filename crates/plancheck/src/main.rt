@@ -14,6 +14,7 @@ use text_bytes::position_of;
 use tokens::{Placed, Reader, Token, TokenFault};
 
 // What came of a file.
+#[derive(Drop)]
 enum Outcome {
     Listed,
     Refused,
