@@ -6,11 +6,11 @@ ghost use Rattle.tokens.specs.Reading.{rest};
 ghost use Rattle.refusals.specs.Steps.{ended};
 ghost use Rattle.plan_file.specs.File.{header_in};
 
-use text_bytes::{Mark, same_bytes};
 use grammar::{Symbol, decimal, expect, name};
 use keywords::Keyword;
 use plan::Name;
 use refusals::{LoadFault, RuleFault};
+use text_bytes::{Mark, same_bytes};
 use tokens::Reader;
 
 // Version decimal ; TestPlan name ;

@@ -10,7 +10,6 @@ ghost use Rattle.refusals.specs.Shapes.{optional};
 ghost use Rattle.declarations.specs.Counters.{counters_in};
 ghost use Rattle.plan_file.specs.File.{test_turn, flow_turn, main_name_in, main_in, flows_in, sections_in};
 
-use text_bytes::Mark;
 use declarations::{counters, test};
 use flows::flow;
 use grammar::{Found, GrammarFault, Symbol, any_symbol, expect, name};
@@ -18,6 +17,7 @@ use keywords::Keyword;
 use names::find;
 use plan::Tables;
 use refusals::{LoadFault, RuleFault};
+use text_bytes::Mark;
 use tokens::Reader;
 
 // [counters], and the symbol behind it
