@@ -444,7 +444,7 @@ module _ (text : List ℕ) (bins : BinsTree) (counters tests : List Word) where
           let row = r.stands in
           let kept = flow_more text start x y p.0 (flow_kept text f.place x ts y us p.0.held h w.0).0 in
           let at : slice_get y.flows (length x.flows) ≡ Some row.row = ap (λ l. slice_get l (length x.flows)) row.flows ∙ nth_next x.flows row.row [] in
-          let own : rows_of row.row.items y.items ≡ row.more = ap (λ (s : Span). rows_of s y.items) row.own_val ∙ span_added x.items y.items row.more row.items in
+          let own : rows_of row.row.items y.items ≡ row.more = ap (λ (s : Span). rows_of s y.items) row.own ∙ span_added x.items y.items row.more row.items in
           let names : map (λ it. spelt text it.name) (rows_of row.row.items y.items) ≡ item_names tree = ap (map (λ it. spelt text it.name)) own ∙ item_rows_named text (tests_in text x) (flows_in text x) (length x.clauses) row.more (each tree.items) row.rows in (
             tree,
             symbol_same f.symbol (sy.Keyword kw.Flow) b,

@@ -78,7 +78,7 @@ const TEXTS: [(&[u8], &str); 36] = [
 fn texts_read_as_the_table_says(rt: HostRuntime) -> Result<(), Fail> {
     for (text, expected) in TEXTS {
         let read = listing(rt.alloc(), text)?;
-        assert!(rt; read.as_str() == expected, "{}", expected);
+        assert!(rt; read.as_str() == expected, "{read}");
     }
     Ok(())
 }
