@@ -22,9 +22,9 @@ returns c =
     let room : length (drafted c.args.t.now).clauses < 1024 = omega (arith, c.args.t.now.clauses.ok.0) in
     let from = c.len-from.ensures ∙ c.args.t.now.values.ok.0 in
     let to = c.len-2.ensures ∙ c.values.new.t.values.ok.0 in
-    let values-read = c.in_ok-values.ensures in
-    let body-read = c.in_ok-row.ensures in
+    let values_read = c.in_ok-values.ensures in
+    let body_read = c.in_ok-row.ensures in
     record {
-      told = ap (λ d. Ok (d, rest c.body.new.r)) c.add_clause.ensures ∙ clause_read c.args.text.now c.args.place c.args.first (drafted c.args.t.now) (rest c.args.r.now) (drafted c.values.new.t) (drafted c.body.new.t) c.in_ok-row.row (rest c.values.new.r) (rest c.body.new.r) c.len-from.result c.len-2.result room from to values-read.told body-read.told;
-      on = omega (arith, values-read.on, body-read.on);
+      told = ap (λ d. Ok (d, rest c.body.new.r)) c.add_clause.ensures ∙ clause_read c.args.text.now c.args.place c.args.first (drafted c.args.t.now) (rest c.args.r.now) (drafted c.values.new.t) (drafted c.body.new.t) c.in_ok-row.row (rest c.values.new.r) (rest c.body.new.r) c.len-from.result c.len-2.result room from to values_read.told body_read.told;
+      on = omega (arith, values_read.on, body_read.on);
     }
