@@ -1,20 +1,20 @@
 -- A clause leaves the tables alone that are not its own.
-use Rattle.std.proofs.Common.{◌≡◌, ℕ, Bool, true, false, cond, not, leb, List, length, drop, Some, None, Ok, Err, Option, Result, sym, refl, ap, ◌∙◌, subst}
+use Rattle.std.proofs.Common.{◌≡◌, ℕ, Bool, true, false, cond, leb, List, length, drop, Some, None, Ok, Option, refl, ap, ◌∙◌, subst}
 use Rattle.keywords.specs.declared.Keyword.TheVariants as kw
 use Rattle.text_bytes.specs.declared.kinds.Mark.TheVariants as mk
 use Rattle.tokens.specs.Terminals.{Tokens}
 use Rattle.grammar.specs.declared.symbols.Found.{Found}
-use Rattle.grammar.specs.Readers.{name_in, symbol_in, value_start_in}
+use Rattle.grammar.specs.Readers.{name_in, symbol_in}
 use Rattle.plan.specs.declared.rows.Value.{Value}
-use Rattle.plan.specs.Drafts.{Draft, with_value, with_mention, with_clause}
+use Rattle.plan.specs.Drafts.{Draft, with_value, with_mention}
 use Rattle.plan.specs.Meaning.{code_of}
 use Rattle.names.specs.Names.{found}
 use Rattle.refusals.specs.declared.fault.RuleFault.{RuleFault}
 use Rattle.refusals.specs.declared.fault.RuleFault.TheVariants.{NotDeclared, Repeated, TableFull}
-use Rattle.refusals.specs.Steps.{Loaded, parse, then, refuse, many}
-use Rattle.refusals.proofs.Passing.{Passed, no_fault, accepted, parse_passed, then_passed, refuse_passed, many_keeps}
+use Rattle.refusals.specs.Steps.{Loaded, parse, then}
+use Rattle.refusals.proofs.Passing.{no_fault, accepted, parse_passed, then_passed, refuse_passed, many_keeps}
 use Rattle.values.specs.Values.{value_from}
-use Rattle.refusals.specs.Shapes.{have, is_keyword, another_in, optional}
+use Rattle.refusals.specs.Shapes.{have, is_keyword, another_in}
 use Rattle.clauses.specs.Parts.{among}
 use Rattle.clauses.specs.Clauses.{start_in, listed_in, values_full, value_turn, values_in, verdict_in, mention_in, mention_turn, mentions_in, counters_in, end_in, body_in, clause_in, span}
 

@@ -1,19 +1,17 @@
 -- Behind a clause the names among the tokens are still what the text has at their places.
-use Rattle.std.proofs.Common.{◌≡◌, ℕ, suc, Bool, true, false, cond, not, leb, List, length, drop, Some, None, Ok, Err, Option, Result, refl, ap, subst, arith}
+use Rattle.std.proofs.Common.{◌≡◌, ℕ, suc, Bool, true, false, cond, not, leb, List, length, drop, None, Ok, Err, Result, refl, ap, subst, arith}
 use Rattle.std.specs.List.{slice_get}
 use Rattle.keywords.specs.declared.Keyword.{Keyword}
 use Rattle.keywords.specs.declared.Keyword.TheVariants as kw
 use Rattle.text_bytes.specs.declared.kinds.Mark.{Mark}
 use Rattle.text_bytes.specs.declared.kinds.Mark.TheVariants as mk
 use Rattle.tokens.specs.Terminals.{Tokens, count}
-use Rattle.tokens.specs.Terminals as t
 use Rattle.grammar.specs.declared.fault.GrammarFault.TheVariants.{NotAllowed}
 use Rattle.grammar.specs.declared.readers.ValueStart.{ValueStart}
 use Rattle.grammar.specs.declared.readers.ValueStart.TheVariants.{Minus, Digits}
 use Rattle.grammar.specs.declared.symbols.Found.{Found}
 use Rattle.grammar.specs.declared.symbols.Symbol.TheVariants as sy
 use Rattle.grammar.specs.Readers.{Parsed, a_value_start, name_in, string_in, symbol_in, expect_in, value_start_in}
-use Rattle.plan.specs.declared.rows.Value.{Value}
 use Rattle.plan.specs.Drafts.{Draft}
 use Rattle.plan.specs.Meaning.{code_of}
 use Rattle.names.specs.Names.{found}
@@ -21,7 +19,7 @@ use Rattle.values.specs.Values.{value_from, value_in}
 use Rattle.refusals.specs.declared.fault.RuleFault.TheVariants.{NotDeclared, WrongKind, OutOfRange, Repeated, TableFull}
 use Rattle.refusals.specs.Steps.{Loaded, parse, then, allow, many}
 use Rattle.refusals.specs.Shapes.{is_keyword, is_mark, another, another_in, optional}
-use Rattle.refusals.proofs.Passing.{no_fault, accepted, parse_passed, then_passed, refuse_passed, allow_passed, turns_keep}
+use Rattle.refusals.proofs.Passing.{accepted, parse_passed, then_passed, refuse_passed, allow_passed, turns_keep}
 use Rattle.refusals.proofs.Spelled.{NamesAt, want_leaves, expect_leaves, placed_leaves}
 use Rattle.values.proofs.Left.{value_from_leaves, value_leaves}
 use Rattle.clauses.specs.Parts.{among}

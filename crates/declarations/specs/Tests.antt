@@ -1,5 +1,5 @@
 -- What is read of a test, as a row of a draft, or the first rule that is broken.
-use Rattle.std.specs.Prelude.{ℕ, Bool, true, false, cond, ◌||◌, List, length, is_some, Ok, nat_le}
+use Rattle.std.specs.Prelude.{ℕ, Bool, ◌||◌, List, length, is_some, Ok, nat_le}
 use Rattle.text_bytes.specs.declared.kinds.Mark.TheVariants as mk
 use Rattle.tokens.specs.Terminals.{Tokens}
 use Rattle.grammar.specs.declared.readers.Setting.{Setting}

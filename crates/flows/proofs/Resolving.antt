@@ -1,6 +1,6 @@
 -- Clauses whose targets are resolved one after the other, in their place.
 use Rattle.std.proofs.Common.{◌≡◌, ℕ, ◌+◌, ◌<◌, ◌≤◌, List, [], ◌∷◌, ◌++◌, length, get_or, take, drop, set, Ok, Err, Result, sym, refl, ap, ◌∙◌, append_assoc, append-nil, arith, length-set}
-use Rattle.std.proofs.lemmas.List.{at_drop_more, at_drop_all, take_more_set, take_all, drop-set-lt, get_or-drop, drop-drop}
+use Rattle.std.proofs.lemmas.List.{at_drop_more, at_drop_all, take_more_set, take_all, drop-set-lt, drop-drop}
 use Rattle.plan.specs.declared.rows.Clause.{Clause}
 use Rattle.plan.specs.declared.rows.Item.{Item}
 use Rattle.plan.specs.declared.rows.Next.{Next}

@@ -1,5 +1,5 @@
 -- Keywords and marks, as the grammar spells them out.
-use Rattle.std.specs.Prelude.{Bool, true, false}
+use Rattle.std.specs.Prelude.{Bool, false}
 use Rattle.keywords.specs.Keywords.{same_keyword}
 use Rattle.text_bytes.specs.Bytes.{same_mark}
 use Rattle.grammar.specs.declared.symbols.Symbol.{Symbol}

@@ -1,5 +1,5 @@
 -- The keywords of a plan text and their spellings.
-use Rattle.std.specs.Prelude.{◌≡◌, ℕ, Bool, true, false, cond, List, [], ◌∷◌, Some, None, codes, Option, ◌==◌}
+use Rattle.std.specs.Prelude.{◌≡◌, ℕ, Bool, cond, List, [], ◌∷◌, Some, None, codes, Option, ◌==◌}
 use Rattle.std.specs.Str.{bytes_eq}
 use Rattle.keywords.specs.declared.Keyword.{Keyword}
 use Rattle.keywords.specs.declared.Keyword.TheVariants.{Version, TestPlan, BinDefs, BinGroup, Bin, LeafBin, SortBinGroup, Counters, Test, Flow, FlowItem, Result, Property, PassFail, IncrementCounters, SetBin, GoTo, Return, FlowDefs, MainFlow}

@@ -42,7 +42,7 @@ use Rattle.flows.proofs.Resolving.{led}
 use Rattle.plan_file.specs.File.{flow_turn}
 use Rattle.language.specs.Trees.{Word, Several, each, BinsTree, NextTree, go_to, return, ClauseTree, ItemTree, FlowTree}
 use Rattle.language.specs.Grammar.{row_tokens, item_tokens, flow_tokens}
-use Rattle.language.specs.Standing.{position, declared, group_names, bin_names, item_names, code, Scope, next_meant, clause_meant, runs_meant, item_meant, items_meant, flows_meant, names_in}
+use Rattle.language.specs.Standing.{position, declared, group_names, bin_names, item_names, Scope, next_meant, clause_meant, runs_meant, item_meant, items_meant, flows_meant, names_in}
 use Rattle.language.specs.Obeying.{Starts, next, Every}
 use Rattle.language.proofs.Along.{Along, along_length, along_map, along_parts, joined_append, every_then, map_same}
 use Rattle.language.proofs.Clauses.{Declared, NextStands, ClauseKeeps}

@@ -26,7 +26,7 @@ use Rattle.flows.proofs.All.{FlowsKept}
 use Rattle.flows.proofs.Following.{flow_items_before, flow_item, listed_before}
 use Rattle.flows.proofs.Kept.{rows_length}
 use Rattle.language.specs.Trees.{Word, each, NextTree, go_to, return, ClauseTree, ItemTree, FlowTree, PlanTree}
-use Rattle.language.specs.Standing.{position, declared, listed, bins_of, group_names, bin_names, bin_meant, test_names, item_names, code, Scope, next_meant, clause_meant, runs_meant, item_meant, items_meant, flows_meant, names_in}
+use Rattle.language.specs.Standing.{position, declared, listed, bins_of, group_names, bin_names, bin_meant, test_names, item_names, Scope, next_meant, clause_meant, runs_meant, item_meant, items_meant, flows_meant, names_in}
 use Rattle.language.specs.Obeying.{Every, Keeps}
 use Rattle.language.proofs.Along.{joined_append, every_nth, nth_every, every_joined, joined_every, nth_made}
 use Rattle.language.proofs.Clauses.{NextStands, ClauseKeeps}

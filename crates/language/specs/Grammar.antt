@@ -1,5 +1,5 @@
 -- The grammar: the tokens that write a tree, line by line.
-use Rattle.std.specs.Prelude.{Bool, true, false, cond, List, [], ◌∷◌, ◌++◌, Some, None, Option}
+use Rattle.std.specs.Prelude.{cond, List, [], ◌∷◌, ◌++◌, Some, None, Option}
 use Rattle.std.specs.List.{flat_map}
 use Rattle.text_bytes.specs.declared.kinds.Mark.TheVariants.{OpenBrace, CloseBrace, Semicolon, Colon, Comma, Equals, FullStop, Minus}
 use Rattle.keywords.specs.declared.Keyword.TheVariants as kw

@@ -1,5 +1,5 @@
 -- When a text obeys the language: it is written as a tree is, and the tree keeps every rule.
-use Rattle.std.specs.Prelude.{◌≡◌, ℕ, suc, ◌≤◌, Bool, true, false, cond, ◌||◌, leb, List, [], ◌∷◌, ◌++◌, map, length, Some, None, codes, Option}
+use Rattle.std.specs.Prelude.{◌≡◌, ℕ, ◌≤◌, true, cond, ◌||◌, List, [], ◌∷◌, ◌++◌, map, length, Some, None, codes, Option}
 use Rattle.std.specs.List.{flat_map, slice_get}
 use Rattle.std.specs.Str.{bytes_eq}
 use Rattle.tokens.specs.Terminals.{Terminal, Tokens}
@@ -7,7 +7,7 @@ use Rattle.tokens.specs.Terminals as t
 use Rattle.tokens.specs.Spelling.{Reads}
 use Rattle.plan.specs.Rules.{Among, Once, Lawful}
 use Rattle.names.specs.Names.{same_name}
-use Rattle.language.specs.Trees.{Word, Several, each, ValueTree, BinTree, BinsTree, SettingTree, to_name, to_string, to_value, SetterTree, TestTree, LeafTree, NextTree, go_to, return, ClauseTree, ItemTree, FlowTree, PlanTree}
+use Rattle.language.specs.Trees.{Word, each, ValueTree, BinTree, BinsTree, SettingTree, to_name, to_string, to_value, LeafTree, NextTree, go_to, return, ClauseTree, PlanTree}
 use Rattle.language.specs.Grammar.{file_tokens}
 use Rattle.language.specs.Standing.{declared, listed, group_names, bins_of, bin_names, test_names, flow_names, item_names, meant, Known, stands_for}
 

@@ -15,7 +15,7 @@ use Rattle.plan.specs.Drafts.{Draft}
 use Rattle.plan.specs.Meaning.{Meaning, PlanBin, PlanClause, PlanItem, PlanFlow, meaning}
 use Rattle.plan.specs.Rules.{spelt}
 use Rattle.names.specs.Names.{same_name}
-use Rattle.language.specs.Trees.{Word, Several, each, ValueTree, BinTree, GroupTree, BinsTree, TestTree, LeafTree, NextTree, go_to, return, ClauseTree, ItemTree, FlowTree, PlanTree}
+use Rattle.language.specs.Trees.{Word, Several, each, ValueTree, BinTree, GroupTree, BinsTree, NextTree, go_to, return, ClauseTree, ItemTree, FlowTree, PlanTree}
 
 -- the number of the first name that is the word; where none is, how many names there are
 abbrev pub position : Word → List Word → ℕ

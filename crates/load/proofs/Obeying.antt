@@ -5,7 +5,7 @@ use Rattle.tokens.specs.Scanning.{scanned, tokens_by, tokens_from}
 use Rattle.plan.specs.declared.rows.Name.{Name}
 use Rattle.plan.specs.Drafts.{Draft, blank}
 use Rattle.plan.specs.declared.plan.Plan.{Plan}
-use Rattle.plan.specs.Plans.{text_of, draft_of}
+use Rattle.plan.specs.Plans.{draft_of}
 use Rattle.refusals.specs.declared.fault.LoadFault.{LoadFault}
 use Rattle.refusals.specs.declared.fault.LoadFault.TheVariants.{NoBytes, TooManyBytes}
 use Rattle.refusals.proofs.Passing.{no_fault}
@@ -14,7 +14,7 @@ use Rattle.language.specs.Standing.{Known, known}
 use Rattle.language.specs.Obeying.{Obeys}
 use Rattle.language.proofs.File.{file_sound, file_complete}
 use Rattle.load.specs.Loading.{loaded, verdict, Loads}
-use Rattle.load.specs.Law.{known_of, ExactlyObeying, AcceptsObeying}
+use Rattle.load.specs.Law.{ExactlyObeying, AcceptsObeying}
 use Rattle.load.proofs.Filled.{read_whole}
 
 -- of a text that is loaded the size is allowed, and all of it was read

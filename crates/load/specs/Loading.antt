@@ -1,5 +1,5 @@
 -- What a text is loaded as, and what that leaves of the plan that was there.
-use Rattle.std.specs.Prelude.{◌≡◌, ℕ, cond, List, [], ◌∷◌, length, Ok, Err, Result, ◌==◌, nat_lt}
+use Rattle.std.specs.Prelude.{◌≡◌, ℕ, cond, List, length, Ok, Err, Result, ◌==◌, nat_lt}
 use Rattle.tokens.specs.Scanning.{tokens_from}
 use Rattle.plan.specs.declared.rows.Name.{Name}
 use Rattle.plan.specs.Drafts.{Draft, blank}

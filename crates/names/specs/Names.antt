@@ -1,5 +1,5 @@
 -- Names of rows as bytes of the text, and the row that a word names.
-use Rattle.std.specs.Prelude.{ℕ, ◌+◌, Bool, true, false, cond, List, [], ◌∷◌, Some, None, Option}
+use Rattle.std.specs.Prelude.{ℕ, ◌+◌, Bool, cond, List, [], ◌∷◌, Some, None, Option}
 use Rattle.std.specs.Str.{bytes_eq}
 use Rattle.plan.specs.declared.rows.Name.{Name}
 use Rattle.plan.specs.Rules.{spelt}

@@ -1,6 +1,5 @@
 -- Tables with no rows, and the plan that they are.
-use Rattle.std.proofs.Common.{◌≡◌, ℕ, ◌⊎◌, List, [], Some, None, Option, sym, refl, ap, ◌∙◌, subst, inl, inr}
-use Rattle.std.specs.List.{slice_get}
+use Rattle.std.proofs.Common.{◌≡◌, ℕ, List, [], sym, refl, ap, subst, inl}
 use Rattle.plan.specs.Drafts.{Draft, blank}
 use Rattle.plan.specs.Meaning.{meaning, nothing, depths}
 use Rattle.plan.specs.Rules.{Keeps, NamesOnce, DepthsTold, Once}

@@ -1,5 +1,5 @@
 -- Going up from a bin.
-use Rattle.std.proofs.Common.{◌≡◌, ℕ, zero, suc, ◌+◌, ◌-◌, ◌<◌, ◌≤◌, Bool, true, false, cond, eqb, ◌⊎◌, List, [], ◌∷◌, map, length, get_or, is_some, Some, None, Option, sym, refl, ap, ◌∙◌, inl, inr, arith}
+use Rattle.std.proofs.Common.{◌≡◌, ℕ, zero, suc, ◌-◌, ◌<◌, ◌≤◌, Bool, true, false, cond, eqb, List, [], ◌∷◌, map, length, get_or, is_some, Some, None, Option, sym, refl, ap, ◌∙◌, inl, inr, arith}
 use mathlib.Core.Bool.{Bool-set}
 use mathlib.Core.Logic.{∥∥₁_elim}
 use lib.ListN.{length-map}
@@ -9,9 +9,9 @@ use Rattle.std.proofs.lemmas.Option.{slice_get-get_or, slice_get_past}
 use Rattle.std.proofs.lemmas.Bool.{eq-eqb, ne_eqb, eqb-true, eqb-false}
 use Rattle.plan.specs.declared.rows.Bin.{Bin}
 use Rattle.plan.specs.Drafts.{Draft}
-use Rattle.plan.specs.Meaning.{Meaning, PlanBin, meaning, nothing, bin_of, parent_in, AtOrAbove, here, up, number_in, at_parent, number_up, in_group, sort_number}
-use Rattle.plan.specs.Rules.{Keeps, Lawful, ParentEarlier, SortBin}
-use Rattle.plan.specs.Finding.{LeafAt, FirstSort, itself, further, SortedAs}
+use Rattle.plan.specs.Meaning.{Meaning, PlanBin, meaning, bin_of, parent_in, AtOrAbove, here, up, number_in, at_parent, number_up, in_group, sort_number}
+use Rattle.plan.specs.Rules.{Keeps, ParentEarlier, SortBin}
+use Rattle.plan.specs.Finding.{LeafAt, itself, further, SortedAs}
 use Rattle.plan.proofs.Readings.{nth_map}
 use Rattle.plan.proofs.Spans.{never_some}
 

@@ -1,9 +1,8 @@
 -- What the rules of a plan give: a plan with no flow is the empty one, and the main flow is a flow.
-use Rattle.std.proofs.Common.{◌≡◌, ℕ, ◌<◌, ◌≤◌, ◌⊎◌, List, [], map, length, Some, None, Option, sym, refl, ap, ◌∙◌, inl, inr, arith}
+use Rattle.std.proofs.Common.{◌≡◌, ℕ, ◌<◌, [], map, length, Some, None, Option, sym, refl, ap, ◌∙◌, inl, inr, arith}
 use mathlib.Core.Logic.{∥∥₁_elim, ∥∥₁_map}
 use native.Mathlib.Bridge.{le_prop}
 use native.Mathlib.Nat.{ℕ_set}
-use lib.ListN.{length-map}
 use Rattle.std.proofs.lemmas.List.{nil_from_length}
 use Rattle.plan.specs.Drafts.{Draft}
 use Rattle.plan.specs.Meaning.{Meaning, meaning, nothing, bin_of, flow_of, item_of, of_some}

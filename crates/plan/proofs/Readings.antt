@@ -1,5 +1,5 @@
 -- What rows mean, read one by one.
-use Rattle.std.proofs.Common.{◌≡◌, ℕ, zero, suc, ◌<◌, ◌≤◌, Bool, true, false, List, [], ◌∷◌, map, length, Some, None, Option, sym, refl, ap, ◌∙◌, arith}
+use Rattle.std.proofs.Common.{◌≡◌, ℕ, zero, suc, List, [], ◌∷◌, map, length, Some, None, Option, sym, refl, ap, ◌∙◌, arith}
 use lib.ListN.{length-map}
 use Rattle.std.specs.Option.{option_map}
 use Rattle.std.specs.List.{slice_get}
@@ -7,7 +7,7 @@ use Rattle.plan.specs.declared.rows.Bin.{Bin}
 use Rattle.plan.specs.declared.rows.Flow.{Flow}
 use Rattle.plan.specs.declared.rows.Item.{Item}
 use Rattle.plan.specs.Drafts.{Draft}
-use Rattle.plan.specs.Meaning.{meaning, bin_of, flow_of, item_of, parent_in, PlanBin, of_some}
+use Rattle.plan.specs.Meaning.{meaning, bin_of, flow_of, item_of, of_some}
 use Rattle.plan.proofs.Added.{the_same}
 use Rattle.plan.proofs.Spans.{never_some}
 

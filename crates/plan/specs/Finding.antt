@@ -1,7 +1,7 @@
 -- What a reader of a plan is told: the clause for a value, the sort number of a bin, the depth of a flow.
-use Rattle.std.specs.Prelude.{◌≡◌, ℕ, ◌+◌, ◌≤◌, Bool, true, cond, List, [], ◌∷◌, map, Some, None, Option, slice_index}
+use Rattle.std.specs.Prelude.{◌≡◌, ℕ, ◌+◌, ◌≤◌, true, cond, List, [], ◌∷◌, map, Some, None, Option, slice_index}
 use Rattle.std.specs.Option.{option_map}
-use Rattle.std.specs.List.{between, slice_get}
+use Rattle.std.specs.List.{slice_get}
 use Rattle.plan.specs.declared.rows.Clause.{Clause}
 use Rattle.plan.specs.declared.rows.Item.{Item}
 use Rattle.plan.specs.declared.rows.Value.{Value}

@@ -1,5 +1,5 @@
 -- What the whole of a plan text comes to: its sections in order, and nothing behind them.
-use Rattle.std.specs.Prelude.{ℕ, ◌≤◌, Bool, true, false, cond, not, List, length, is_some, Some, None, Ok, Err, codes, Option, Result}
+use Rattle.std.specs.Prelude.{ℕ, ◌≤◌, Bool, cond, not, List, length, is_some, Some, None, Ok, Err, codes, Option, Result}
 use Rattle.std.specs.Str.{bytes_eq}
 use Rattle.keywords.specs.declared.Keyword.TheVariants as kw
 use Rattle.text_bytes.specs.declared.kinds.Mark.TheVariants as mk

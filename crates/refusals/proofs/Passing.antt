@@ -4,7 +4,6 @@ use Rattle.std.proofs.lemmas.Bool.{cond-true}
 use Rattle.tokens.specs.Terminals.{Tokens, count}
 use Rattle.grammar.specs.Readers.{Parsed, symbol_in}
 use Rattle.grammar.specs.declared.symbols.Found.{Found}
-use Rattle.grammar.specs.declared.fault.GrammarFault.{GrammarFault}
 use Rattle.refusals.specs.declared.fault.LoadFault.{LoadFault}
 use Rattle.refusals.specs.declared.fault.RuleFault.{RuleFault}
 use Rattle.refusals.specs.Shapes.{row_turn}

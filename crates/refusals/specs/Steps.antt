@@ -1,7 +1,6 @@
 -- How productions follow one another: what each reads, the tokens that it leaves, or the fault at which all stops.
-use Rattle.std.specs.Prelude.{ℕ, zero, suc, Bool, true, false, cond, Ok, Err, Result}
+use Rattle.std.specs.Prelude.{ℕ, zero, suc, Bool, cond, Ok, Err, Result}
 use Rattle.tokens.specs.Terminals.{Tokens, count}
-use Rattle.grammar.specs.declared.fault.GrammarFault.{GrammarFault}
 use Rattle.grammar.specs.declared.fault.GrammarFault.TheVariants.{NotAllowed}
 use Rattle.grammar.specs.Readers.{Parsed}
 use Rattle.refusals.specs.declared.fault.RuleFault.{RuleFault}

@@ -1,5 +1,5 @@
 -- Every text has one reading, and the tokens that the reader's definition gives are that reading.
-use Rattle.std.proofs.Common.{◌≡◌, ℕ, zero, suc, ◌+◌, ◌-◌, ◌<◌, ◌≤◌, Bool, true, false, ◌⊎◌, List, [], ◌∷◌, ◌++◌, length, drop, Some, None, Option, sym, refl, ap, ◌∙◌, subst, inl, inr, arith, length-append, length-drop}
+use Rattle.std.proofs.Common.{◌≡◌, ℕ, zero, suc, ◌+◌, ◌-◌, ◌<◌, ◌≤◌, ◌⊎◌, List, ◌∷◌, ◌++◌, length, drop, Some, None, Option, sym, refl, ap, ◌∙◌, subst, inl, inr, arith, length-append, length-drop}
 use Rattle.tokens.specs.Terminals.{Terminal, Tokens}
 use Rattle.tokens.specs.Terminals as t
 use Rattle.tokens.specs.Spelling.{Lexeme, Written, measured, Reads, Reading, Within, LastGap}

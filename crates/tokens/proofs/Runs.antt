@@ -1,10 +1,10 @@
 -- Runs of bytes of one kind, gaps, and the parts of a text behind an offset.
-use Rattle.std.proofs.Common.{◌≡◌, ℕ, suc, ◌+◌, ◌-◌, ◌<◌, ◌≤◌, Bool, true, false, cond, not, eqb, List, [], ◌∷◌, ◌++◌, length, get_or, take, drop, sym, refl, ap, ◌∙◌, append-nil, arith, length-append, length-drop, get_or-drop, drop-drop}
+use Rattle.std.proofs.Common.{◌≡◌, ℕ, suc, ◌+◌, ◌-◌, ◌≤◌, Bool, true, false, cond, eqb, List, [], ◌∷◌, ◌++◌, length, get_or, take, drop, sym, refl, ap, ◌∙◌, append-nil, arith, length-append, length-drop, get_or-drop, drop-drop}
 use lib.Seq.{take-append_seam, drop-append_seam}
 use Rattle.std.specs.List.{prefix_len}
 use Rattle.std.proofs.lemmas.Bool.{cond-true, cond-false}
 use Rattle.text_bytes.specs.declared.kinds.ByteKind.{ByteKind}
-use Rattle.text_bytes.specs.Bytes.{blank, letter, digit, of_kind, gap}
+use Rattle.text_bytes.specs.Bytes.{blank, of_kind, gap}
 use Rattle.tokens.specs.Spelling.{Each, Gap, none, blank_byte, comment, LastGap, closed, open_comment, not_feed}
 use Rattle.tokens.specs.Scanning.{part, run_end}
 

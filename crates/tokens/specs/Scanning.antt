@@ -1,5 +1,5 @@
 -- What stands at an offset of a text, as the reader finds it: skip the gap, look at one byte, run to the token's end, measure it.
-use Rattle.std.specs.Prelude.{ℕ, zero, suc, ◌+◌, ◌-◌, Bool, true, false, cond, not, ◌&&◌, ◌||◌, List, [], ◌∷◌, length, drop, Some, None, Option, ◌==◌, nat_le, nat_lt, slice_index, slice_range}
+use Rattle.std.specs.Prelude.{ℕ, zero, suc, ◌+◌, ◌-◌, false, cond, ◌&&◌, ◌||◌, List, length, drop, Some, None, Option, ◌==◌, nat_le, nat_lt, slice_index, slice_range}
 use Rattle.std.specs.List.{prefix_len}
 use Rattle.text_bytes.specs.declared.kinds.Mark.{Mark}
 use Rattle.text_bytes.specs.declared.kinds.ByteKind.{ByteKind}

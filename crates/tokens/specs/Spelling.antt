@@ -1,9 +1,9 @@
 -- The law of the token reader: how bytes spell tokens. No offset is computed here but the places told.
-use Rattle.std.specs.Prelude.{◌≡◌, ℕ, ◌+◌, ◌≤◌, Bool, true, false, cond, not, ◌&&◌, ◌||◌, List, [], ◌∷◌, ◌++◌, length, Some, None, Option, ◌==◌, ◌≢◌, nat_eq, nat_le}
+use Rattle.std.specs.Prelude.{◌≡◌, ℕ, ◌+◌, ◌≤◌, Bool, true, false, cond, not, ◌&&◌, List, [], ◌∷◌, ◌++◌, length, Some, None, Option, ◌==◌, ◌≢◌, nat_eq, nat_le}
 use Rattle.keywords.specs.declared.Keyword.{Keyword}
 use Rattle.keywords.specs.Keywords as kw
 use Rattle.text_bytes.specs.declared.kinds.Mark.{Mark}
-use Rattle.text_bytes.specs.declared.kinds.ByteKind.TheVariants.{OfName, OfNumber, OfString}
+use Rattle.text_bytes.specs.declared.kinds.ByteKind.TheVariants.{OfName, OfString}
 use Rattle.text_bytes.specs.Bytes.{blank, letter, digit, of_kind, mark_byte, numeral}
 use Rattle.tokens.specs.declared.fault.TokenFault.TheVariants.{StrayByte, ByteInString, TooLong, OpenString}
 use Rattle.tokens.specs.Terminals.{Terminal, Tokens}

@@ -1,5 +1,5 @@
 -- Tokens by what they hold, and the list of them that a text is.
-use Rattle.std.specs.Prelude.{ℕ, zero, suc, List}
+use Rattle.std.specs.Prelude.{ℕ, suc, List}
 use Rattle.keywords.specs.declared.Keyword.{Keyword}
 use Rattle.text_bytes.specs.declared.kinds.Mark.{Mark}
 use Rattle.tokens.specs.declared.fault.TokenFault.{TokenFault}

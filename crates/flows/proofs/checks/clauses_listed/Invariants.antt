@@ -1,6 +1,5 @@
 use Rattle.std.proofs.Common.{◌≡◌, drop}
-use Rattle.plan.specs.Meaning.{rows_of}
-use Rattle.flows.specs.Checks.{every, return_listed, clauses_listed, items_listed}
+use Rattle.flows.specs.Checks.{every, return_listed, clauses_listed}
 use Rattle.flows.proofs.checks.clauses_listed.Given as goal
 
 abbrev pub invariant-loop-c : goal.invariant-loop-c

@@ -1,6 +1,6 @@
 use Rattle.std.proofs.Common.{sym, ap, ◌∙◌}
 use Rattle.plan.specs.Meaning.{rows_of}
-use Rattle.flows.specs.Checks.{return_listed, clauses_listed}
+use Rattle.flows.specs.Checks.{clauses_listed}
 use Rattle.flows.proofs.Rows.{every_on, every_stops, every_ends}
 use Rattle.flows.proofs.checks.items_listed.Goals as goal
 

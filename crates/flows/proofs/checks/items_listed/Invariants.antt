@@ -1,6 +1,6 @@
 use Rattle.std.proofs.Common.{◌≡◌, drop}
 use Rattle.plan.specs.Meaning.{rows_of}
-use Rattle.flows.specs.Checks.{every, return_listed, clauses_listed, items_listed}
+use Rattle.flows.specs.Checks.{every, clauses_listed, items_listed}
 use Rattle.flows.proofs.checks.items_listed.Given as goal
 
 abbrev pub invariant-loop-it : goal.invariant-loop-it

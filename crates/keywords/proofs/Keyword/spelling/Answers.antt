@@ -1,4 +1,3 @@
-use Rattle.std.proofs.Common.{refl}
 use Rattle.keywords.proofs.Keyword.spelling.Goals as goal
 
 pub returns-in-SortBinGroup : goal.returns-in-SortBinGroup

@@ -1,4 +1,4 @@
-use Rattle.std.proofs.Common.{◌≡◌, ◌≤◌, false, eqb, ltb, length, sym, ◌∙◌, arith, rules}
+use Rattle.std.proofs.Common.{◌≡◌, ◌≤◌, false, eqb, ltb, length, sym, ◌∙◌, rules}
 use Rattle.load.specs.Loading.{loaded}
 use Rattle.load.proofs.Filled.{read_whole, given_so, place_nearer}
 use Rattle.load.proofs.loader.Loader.read.Goals as goal

@@ -1,4 +1,4 @@
-use Rattle.std.proofs.Common.{◌≡◌, ◌+◌, ◌≤◌, take, vec_items, vec_len, vec_capacity, arith, rules}
+use Rattle.std.proofs.Common.{rules}
 use Rattle.std.proofs.lemmas.List.{take_more, take_all}
 use Rattle.load.proofs.loader.loading.copy_text.Goals as goal
 

@@ -1,6 +1,6 @@
 use Rattle.std.proofs.Common.{◌≡◌, ap, ◌∙◌, rules}
 use Rattle.plan.specs.Plans.{draft_of}
-use Rattle.plan.specs.Finding.{clause_meant, clause_number, seek_clause}
+use Rattle.plan.specs.Finding.{clause_meant, seek_clause}
 use Rattle.plan.specs.Meaning.{rows_of}
 use Rattle.plan.proofs.Clauses.{number_of, no_number, number_meant}
 use Rattle.plan.proofs.plan.Plan.clause_for.Goals as goal

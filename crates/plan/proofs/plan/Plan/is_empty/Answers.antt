@@ -1,6 +1,6 @@
-use Rattle.std.proofs.Common.{◌≡◌, true, false, eqb, length, sym, ◌∙◌, arith, eqb-true}
+use Rattle.std.proofs.Common.{◌≡◌, length, sym, ◌∙◌, eqb-true}
 use borrow.Author.Tests.{eqb-false}
-use Rattle.plan.specs.Plans.{draft_of, means}
+use Rattle.plan.specs.Plans.{draft_of}
 use Rattle.plan.proofs.Readings.{flows_counted}
 use Rattle.plan.proofs.Laws.{no_flow_nothing, some_flow_lawful}
 use Rattle.plan.proofs.plan.Plan.is_empty.Goals as goal

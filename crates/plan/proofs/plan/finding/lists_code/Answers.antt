@@ -1,4 +1,4 @@
-use Rattle.std.proofs.Common.{◌≡◌, ◌<◌, ◌≤◌, length, sym, ◌∙◌, rules}
+use Rattle.std.proofs.Common.{◌<◌, ◌≤◌, length, sym, ◌∙◌, rules}
 use Rattle.plan.proofs.Spans.{lists_hit, lists_miss, lists_past}
 use Rattle.plan.proofs.plan.finding.lists_code.Goals as goal
 

@@ -1,4 +1,4 @@
-use Rattle.std.proofs.Common.{◌≡◌, ◌<◌, ◌≤◌, length, sym, ◌∙◌, rules}
+use Rattle.std.proofs.Common.{◌<◌, ◌≤◌, length, sym, ◌∙◌, rules}
 use Rattle.plan.proofs.Climbs.{up_past, up_hit, up_end, up_on}
 use Rattle.plan.proofs.plan.finding.number_up.Goals as goal
 

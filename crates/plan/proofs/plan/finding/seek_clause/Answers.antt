@@ -1,4 +1,4 @@
-use Rattle.std.proofs.Common.{◌≡◌, ◌<◌, ◌≤◌, length, sym, ◌∙◌, rules}
+use Rattle.std.proofs.Common.{◌<◌, ◌≤◌, length, sym, ◌∙◌, rules}
 use Rattle.plan.proofs.Clauses.{seek_hit, seek_miss, seek_past}
 use Rattle.plan.proofs.plan.finding.seek_clause.Goals as goal
 
