@@ -3,8 +3,8 @@
 # the reader in Python. Needs gcc and python3, which the gate does not.
 set -eu
 cd "$(dirname "$0")/.."
-kit=$(dirname "$(dirname "$(rt doc)")")
-rt staticlib editor
+kit=$(dirname "$(rt doc)")
+(cd crates/editor && rt lib)
 mkdir -p target/clients
-gcc -O2 -Wall -Wextra -Iinclude clients/check_plans.c target/staticlib/libeditor.a "$kit/lib/librattle_c.a" -o target/clients/check_plans
+gcc -O2 -Wall -Wextra -Iinclude clients/check_plans.c crates/editor/out/libeditor.a "$kit/c/liblibc_c.a" -o target/clients/check_plans
 python3 tools/try_c_client.py target/clients/check_plans
