@@ -54,7 +54,7 @@ def write(path, text):
 def pieces(text, mark):
     """The text in pieces: (is code, piece); comments begin with `mark`, strings stand between double quotes."""
     out = []
-    for m in re.finditer(r'(?:%s[^\n]*)|b?"(?:[^"\\]|\\.)*"|b?\'(?:[^\'\\]|\\.)\'|(?:(?!%s)[^"\'])+|[\s\S]' % (mark, mark), text):
+    for m in re.finditer(r'(?:%s[^\n]*)|b?"(?:[^"\\]|\\[\s\S])*"|b?\'(?:[^\'\\]|\\.)\'|(?:(?!%s)[^"\'])+|[\s\S]' % (mark, mark), text):
         out.append((not (m[0].startswith(mark) or m[0].startswith(('"', 'b"')) or re.fullmatch(r"b?'(?:[^'\\]|\\.)'", m[0])), m[0]))
     return out
 

@@ -37,7 +37,7 @@ pub const CASES: &str = "\
     ~Counters { Passed, Failed }|Counters { Passed, Failed } Counters { A }|refused 6 at 305 by grammar\
     ~Test Reading PumpTest|Test Reading ProbeTest|refused 7 at 356 by plan rules\
     ~{ Limit = 7; }|{ }|refused 6 at 330 by grammar\
-    ~{ Limit = 7; }|{ Limit = \"a\"; Unit = m_v; Low = -32768; }|accepted Bench 3 6 2 2 2 3 6\
+    ~{ Limit = 7; }|{ Limit = \"a\"; Unit = mV; Low = -32768; }|accepted Bench 3 6 2 2 2 3 6\
     ~{ Limit = 7; }|{ Low = -32769; }|refused 10 at 337 by plan rules\
     ~{ Limit = 7; }|{ Low = 32768; }|refused 10 at 336 by plan rules\
     ~{ Limit = 7; }|{ Low = 1.5; }|refused 6 at 336 by grammar\
