@@ -1,4 +1,4 @@
-//! `plancheck [--tokens] FILE..` tells of each plan file whether it is accepted, or what is wrong with it and where.
+//! `check_plans [--tokens] FILE..` tells of each plan file whether it is accepted, or what is wrong with it and where.
 //!
 //! With `--tokens` it lists the tokens of the files that follow, one to a line: place, kind and text. It goes through all
 //! files, and ends with status 1 where one was refused or could not be read.
@@ -104,7 +104,7 @@ fn run(rt: &HostRuntime) -> anyhow::Result<Outcome> {
         }
     }
     if files == 0 {
-        eprintln!(rt; "usage: plancheck [--tokens] FILE..")?;
+        eprintln!(rt; "usage: check_plans [--tokens] FILE..")?;
         return Ok(Outcome::Refused);
     }
     Ok(outcome)
