@@ -1,5 +1,5 @@
 -- The keywords of a plan text and their spellings.
-use Rattle.std.specs.Prelude.{◌≡◌, ℕ, Bool, cond, List, [], ◌∷◌, Some, None, codes, Option, ◌==◌}
+use Rattle.std.specs.Prelude.{◌≡◌, ℕ, Bool, List, [], ◌∷◌, find, Some, codes, Option, ◌==◌}
 use Rattle.std.specs.Str.{bytes_eq}
 use Rattle.keywords.specs.declared.Keyword.{Keyword}
 use Rattle.keywords.specs.declared.Keyword.TheVariants.{Version, TestPlan, BinDefs, BinGroup, Bin, LeafBin, SortBinGroup, Counters, Test, Flow, FlowItem, Result, Property, PassFail, IncrementCounters, SetBin, GoTo, Return, FlowDefs, MainFlow}
@@ -35,8 +35,7 @@ keywords = Version ∷ TestPlan ∷ BinDefs ∷ BinGroup ∷ Bin ∷ LeafBin ∷
 
 -- the first of the keywords that is spelt as the word
 abbrev pub first_spelt : List Keyword → List ℕ → Option Keyword
-first_spelt [] word = None
-first_spelt (k ∷ ks) word = cond (bytes_eq word (spelt k)) (Some k) (first_spelt ks word)
+first_spelt ks word = find (λ k. bytes_eq word (spelt k)) ks
 
 -- the keyword that the word is, or none
 unfoldable pub keyword : List ℕ → Option Keyword

@@ -3,13 +3,9 @@
 #![tactic(auto)]
 
 ghost use Rattle.std.specs.Prelude.{◌≡◌};
-ghost use Rattle.keywords.specs.Keywords.{spelt, keywords, first_spelt, keyword, Recognised, same_keyword};
-ghost use Rattle.std.specs.Cmp.Rules.{comparing};
-ghost use Rattle.std.proofs.Common.{rules};
+ghost use Rattle.keywords.specs.Keywords.{spelt, keywords, first_spelt, keyword, Recognised};
 
-use text_bytes::same_bytes;
-
-#[derive(Clone, Copy)]
+#[derive(Clone, Copy, PartialEq, Eq)]
 pub enum Keyword {
     Version,
     TestPlan,
@@ -86,26 +82,11 @@ impl Keyword {
     }
 }
 
-impl PartialEq for Keyword {
-    ghost eq = { λ a b. same_keyword a b };
-
-    ghost laws = { Prim.search (comparing, rules) };
-
-    fn eq(&self, other: &Keyword) -> bool {
-        *self as u8 == *other as u8
-    }
-}
-
 // The first of the keywords whose spelling the word is.
 fn first_spelt(keywords: &[Keyword], word: &[u8]) -> Option<Keyword>
     ensures { result ≡ first_spelt keywords.now word.now }
 {
-    for k in keywords {
-        if same_bytes(word, k.spelling()) {
-            return Some(*k);
-        }
-    }
-    None
+    keywords.iter().copied().find(|k| word == k.spelling())
 }
 
 // The keyword that the word is spelt as.

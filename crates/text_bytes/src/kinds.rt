@@ -1,11 +1,9 @@
 // The kinds of bytes that tokens, blanks and comments are made of.
 
 ghost use Rattle.std.specs.Prelude.{◌≡◌};
-ghost use Rattle.text_bytes.specs.Bytes.{blank, letter, digit, of_kind, mark_byte, same_mark, mark_of};
-ghost use Rattle.std.specs.Cmp.Rules.{comparing};
-ghost use Rattle.std.proofs.Common.{rules};
+ghost use Rattle.text_bytes.specs.Bytes.{blank, letter, digit, of_kind, mark_of};
 
-#[derive(Clone, Copy)]
+#[derive(Clone, Copy, PartialEq, Eq)]
 pub enum Mark {
     OpenBrace,
     CloseBrace,
@@ -15,31 +13,6 @@ pub enum Mark {
     Equals,
     FullStop,
     Minus,
-}
-
-fn byte_of(m: Mark) -> u8
-    ensures { result ≡ mark_byte m }
-{
-    match m {
-        Mark::OpenBrace => b'{',
-        Mark::CloseBrace => b'}',
-        Mark::Semicolon => b';',
-        Mark::Colon => b':',
-        Mark::Comma => b',',
-        Mark::Equals => b'=',
-        Mark::FullStop => b'.',
-        Mark::Minus => b'-',
-    }
-}
-
-impl PartialEq for Mark {
-    ghost eq = { λ a b. same_mark a b };
-
-    ghost laws = { Prim.search (comparing, rules) };
-
-    fn eq(&self, other: &Mark) -> bool {
-        byte_of(*self) == byte_of(*other)
-    }
 }
 
 // What a run of bytes inside a token is made of: the bytes of a name, of a number, of a string.

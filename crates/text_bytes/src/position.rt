@@ -1,6 +1,6 @@
 // The line and column by which an editor finds a place.
 
-ghost use Rattle.std.specs.Prelude.{◌≡◌, ℕ, ◌+◌, not, count_by};
+ghost use Rattle.std.specs.Prelude.{◌≡◌, ℕ, ◌+◌, ◌≤◌, not, length, count_by};
 ghost use Rattle.std.specs.List.{suffix_len};
 ghost use Rattle.text_bytes.specs.Position.{feed, line_at, column_at};
 
@@ -21,22 +21,23 @@ impl fmt::Display for Position {
     }
 }
 
+// How many bytes stand behind the last line feed.
+fn since_feed(front: &[u8]) -> usize
+    ensures value { result ≡ suffix_len (λ b. not (feed b)) front.now }
+    ensures within { result ≤ length front.now }
+{
+    front.iter().rev().take_while(|b| **b != b'\n').count()
+}
+
 // The position behind these bytes.
 fn position_behind(front: &[u8]) -> Position
     ensures line { result.line ≡ 1 + count_by feed front.now }
     ensures column { result.column ≡ 1 + suffix_len (λ b. not (feed b)) front.now }
 {
-    let mut line = 1;
-    let mut column = 1;
-    for b in front {
-        if *b == b'\n' {
-            line += 1;
-            column = 1;
-        } else {
-            column += 1;
-        }
+    Position {
+        line: 1 + front.iter().filter(|b| **b == b'\n').count(),
+        column: 1 + since_feed(front),
     }
-    Position { line, column }
 }
 
 // The position of a place of the text; a place past the text has that of its end.
@@ -44,8 +45,5 @@ pub fn position_of(text: &[u8], place: usize) -> Position
     ensures line { result.line ≡ line_at text.now place }
     ensures column { result.column ≡ column_at text.now place }
 {
-    if place >= text.len() {
-        return position_behind(text);
-    }
-    position_behind(&text[0..place])
+    position_behind(text.get(..place).unwrap_or(text))
 }

@@ -18,22 +18,28 @@ pub fn gap_end(text: &[u8], from: usize) -> usize
     ensures value { result ≡ from + gap false (drop from text.now) }
     ensures bound { from ≤ length text.now → result ≤ length text.now }
 {
-    let mut i = from;
+    let Some(rest) = text.get(from..) else {
+        return from;
+    };
     let mut comment = false;
-    while i < text.len() {
-        let b = text[i];
+    for (i, b) in rest.iter().enumerate() {
         if comment {
-            if b == b'\n' {
-                comment = false;
-            }
-        } else if b == b'#' {
+            comment = *b != b'\n';
+        } else if *b == b'#' {
             comment = true;
-        } else if !is_blank(b) {
-            return i;
+        } else if !is_blank(*b) {
+            return from + i;
         }
-        i += 1;
     }
-    i
+    text.len()
+}
+
+// How many bytes of a kind stand in front.
+fn run_len(bytes: &[u8], kind: ByteKind) -> usize
+    ensures value { result ≡ prefix_len (of_kind kind) bytes.now }
+    ensures within { result ≤ length bytes.now }
+{
+    bytes.iter().take_while(|b| is_of_kind(kind, **b)).count()
 }
 
 // Where the bytes of a kind that begin at `from` end.
@@ -41,11 +47,10 @@ pub fn run_end(text: &[u8], from: usize, kind: ByteKind) -> usize
     ensures value { result ≡ from + prefix_len (of_kind kind) (drop from text.now) }
     ensures bound { from ≤ length text.now → result ≤ length text.now }
 {
-    let mut end = from;
-    while end < text.len() && is_of_kind(kind, text[end]) {
-        end += 1;
-    }
-    end
+    let Some(rest) = text.get(from..) else {
+        return from;
+    };
+    from + run_len(rest, kind)
 }
 
 // The largest value that a number of a plan text may have.

@@ -33,10 +33,10 @@ impl TokenFault {
         ensures { result ≡ (told self).place }
     {
         match self {
-            TokenFault::StrayByte(place) => place,
-            TokenFault::ByteInString(place) => place,
-            TokenFault::TooLong(place) => place,
-            TokenFault::OpenString(place) => place,
+            TokenFault::StrayByte(place)
+            | TokenFault::ByteInString(place)
+            | TokenFault::TooLong(place)
+            | TokenFault::OpenString(place) => place,
         }
     }
 }

@@ -1,8 +1,9 @@
 // One token from where it begins: run to its end, then measure it.
 
-ghost use Rattle.std.specs.Prelude.{◌≡◌, ℕ, ◌+◌, ◌<◌, ◌≤◌, length};
+ghost use Rattle.std.specs.Prelude.{◌≡◌, ℕ, ◌+◌, ◌<◌, ◌≤◌, length, IfOk, IfErr};
 ghost use Rattle.text_bytes.specs.declared.kinds.ByteKind.TheVariants.{OfName, OfNumber, OfString};
-ghost use Rattle.tokens.specs.Scanning.{run_end, word_to, number_to, decimal_to, digits_to, string_to, token_at};
+ghost use Rattle.tokens.specs.Scanning.{part, run_end, word_to, number_to, decimal_to, digits_to, string_to, token_at};
+ghost use Rattle.tokens.specs.declared.fault.TokenFault.TheVariants.{TooLong};
 ghost use Rattle.tokens.specs.Answers.{seen, Forward};
 
 use crate::fault::TokenFault;
@@ -15,16 +16,26 @@ const LONGEST_WORD: usize = 32;
 // The most bytes between the quotes of a string.
 const LONGEST_STRING: usize = 64;
 
+// The bytes of a name, a number or a decimal, unless they are too many.
+fn measured<'a>(text: &'a [u8], at: usize, end: usize) -> Result<&'a [u8], TokenFault>
+    requires { (at < end) × (end ≤ length text.now) }
+    ensures bytes { IfOk result (λ bytes. (bytes.now ≡ part text.now at end) × (length bytes.now ≤ 32)) }
+    ensures long { IfErr result (λ e. (e ≡ TooLong at) × (32 < length (part text.now at end))) }
+{
+    let bytes = &text[at..end];
+    if bytes.len() > LONGEST_WORD {
+        return Err(TokenFault::TooLong(at));
+    }
+    Ok(bytes)
+}
+
 fn word<'a>(text: &'a [u8], at: usize) -> Result<Placed<'a>, TokenFault>
     requires { at < length text.now }
     ensures told { seen result ≡ word_to text.now at (run_end text.now (at + 1) OfName) }
     ensures forward { Forward at (length text.now) (seen result) }
 {
     let end = run_end(text, at + 1, ByteKind::OfName);
-    let bytes = &text[at..end];
-    if bytes.len() > LONGEST_WORD {
-        return Err(TokenFault::TooLong(at));
-    }
+    let bytes = measured(text, at, end)?;
     let token = match keyword_of(bytes) {
         Some(k) => Token::Keyword(k),
         None => Token::Name(bytes),
@@ -41,10 +52,7 @@ fn number<'a>(text: &'a [u8], at: usize, end: usize) -> Result<Placed<'a>, Token
     ensures told { seen result ≡ number_to text.now at end }
     ensures forward { Forward at (length text.now) (seen result) }
 {
-    let bytes = &text[at..end];
-    if bytes.len() > LONGEST_WORD {
-        return Err(TokenFault::TooLong(at));
-    }
+    let bytes = measured(text, at, end)?;
     match number_of(bytes) {
         Some(n) => Ok(Placed {
             token: Token::Number(n),
@@ -60,10 +68,7 @@ fn decimal<'a>(text: &'a [u8], at: usize, end: usize) -> Result<Placed<'a>, Toke
     ensures told { seen result ≡ decimal_to text.now at end }
     ensures forward { Forward at (length text.now) (seen result) }
 {
-    let bytes = &text[at..end];
-    if bytes.len() > LONGEST_WORD {
-        return Err(TokenFault::TooLong(at));
-    }
+    let bytes = measured(text, at, end)?;
     Ok(Placed {
         token: Token::Decimal(bytes),
         place: at,
