@@ -53,14 +53,12 @@ fn number<'a>(text: &'a [u8], at: usize, end: usize) -> Result<Placed<'a>, Token
     ensures forward { Forward at (length text.now) (seen result) }
 {
     let bytes = measured(text, at, end)?;
-    match number_of(bytes) {
-        Some(n) => Ok(Placed {
-            token: Token::Number(n),
-            place: at,
-            end,
-        }),
-        None => Err(TokenFault::TooLong(at)),
-    }
+    let n = number_of(bytes).ok_or(TokenFault::TooLong(at))?;
+    Ok(Placed {
+        token: Token::Number(n),
+        place: at,
+        end,
+    })
 }
 
 fn decimal<'a>(text: &'a [u8], at: usize, end: usize) -> Result<Placed<'a>, TokenFault>
@@ -82,10 +80,12 @@ fn digits<'a>(text: &'a [u8], at: usize) -> Result<Placed<'a>, TokenFault>
     ensures forward { Forward at (length text.now) (seen result) }
 {
     let whole = run_end(text, at + 1, ByteKind::OfNumber);
-    if whole + 1 >= text.len() || text[whole] != b'.' || !is_digit(text[whole + 1]) {
-        return number(text, at, whole);
+    match &text[whole..] {
+        [b'.', d, ..] if is_digit(*d) => {
+            decimal(text, at, run_end(text, whole + 1, ByteKind::OfNumber))
+        }
+        _ => number(text, at, whole),
     }
-    decimal(text, at, run_end(text, whole + 1, ByteKind::OfNumber))
 }
 
 fn string<'a>(text: &'a [u8], at: usize) -> Result<Placed<'a>, TokenFault>
@@ -116,14 +116,13 @@ pub fn token_at<'a>(text: &'a [u8], at: usize) -> Result<Placed<'a>, TokenFault>
     ensures told { seen result ≡ token_at text.now at }
     ensures forward { Forward at (length text.now) (seen result) }
 {
-    if at >= text.len() {
+    let Some(&b) = text.get(at) else {
         return Ok(Placed {
             token: Token::End,
             place: at,
             end: at,
         });
-    }
-    let b = text[at];
+    };
     if begins_name(b) {
         return word(text, at);
     }
@@ -133,12 +132,10 @@ pub fn token_at<'a>(text: &'a [u8], at: usize) -> Result<Placed<'a>, TokenFault>
     if b == b'"' {
         return string(text, at);
     }
-    match mark_of(b) {
-        Some(m) => Ok(Placed {
-            token: Token::Mark(m),
-            place: at,
-            end: at + 1,
-        }),
-        None => Err(TokenFault::StrayByte(at)),
-    }
+    let m = mark_of(b).ok_or(TokenFault::StrayByte(at))?;
+    Ok(Placed {
+        token: Token::Mark(m),
+        place: at,
+        end: at + 1,
+    })
 }
