@@ -11,8 +11,9 @@ use Rattle.grammar.specs.declared.symbols.Symbol.{Symbol}
 use Rattle.grammar.specs.declared.symbols.Symbol.TheVariants as sy
 use Rattle.grammar.specs.declared.readers.ValueStart.{ValueStart}
 use Rattle.grammar.specs.declared.readers.ValueStart.TheVariants.{Minus, Digits}
-use Rattle.grammar.specs.declared.readers.Setting.{Setting}
-use Rattle.grammar.specs.declared.readers.Setting.TheVariants.{Whole, Value}
+use Rattle.tokens.specs.declared.token.Placed.{Placed}
+use Rattle.tokens.specs.declared.token.Token.{Token as CodeToken}
+use Rattle.tokens.specs.declared.token.Token.TheVariants as code
 use Rattle.text_bytes.specs.declared.kinds.Mark.{Mark}
 use Rattle.text_bytes.specs.declared.kinds.Mark.TheVariants as mk
 use Rattle.text_bytes.specs.Bytes.{same_mark}
@@ -88,13 +89,27 @@ a_value_start p (t.decimal bs) = None
 a_value_start p (t.string bs) = None
 a_value_start p (t.mark m) = the_mark mk.Minus (Minus p) m
 
-abbrev pub a_setting : ℕ → Terminal → Option Setting
-a_setting p (t.name bs) = Some Whole
+-- the same of a token of the code
+abbrev pub start_by : CodeToken → ℕ → Option ValueStart
+start_by (code.Name s) p = None
+start_by (code.Keyword k) p = None
+start_by (code.Number n) p = a_value_start p (t.number n)
+start_by (code.Decimal s) p = None
+start_by (code.Quoted s) p = None
+start_by (code.Mark m) p = a_value_start p (t.mark m)
+start_by code.End p = None
+
+abbrev pub start_at : Placed → Option ValueStart
+start_at x = start_by x.token x.place
+
+-- a name or a string, at which no value begins, or the start of a value
+abbrev pub a_setting : ℕ → Terminal → Option (Option ValueStart)
+a_setting p (t.name bs) = Some None
 a_setting p (t.keyword k) = None
-a_setting p (t.number n) = Some (Value (Digits (record { value = n; place = p })))
+a_setting p (t.number n) = Some (Some (Digits (record { value = n; place = p })))
 a_setting p (t.decimal bs) = None
-a_setting p (t.string bs) = Some Whole
-a_setting p (t.mark m) = the_mark mk.Minus (Value (Minus p)) m
+a_setting p (t.string bs) = Some None
+a_setting p (t.mark m) = the_mark mk.Minus (Some (Minus p)) m
 
 -- whether it is a name, where it is a name or a closing brace
 abbrev pub a_name_or_close : Terminal → Option Bool
@@ -151,7 +166,7 @@ placed kind (t.token x p ts) = taken (λ y _. y) (kind p x) p ts
 abbrev pub value_start_in : Tokens → Parsed ValueStart
 value_start_in ts = placed a_value_start ts
 
-abbrev pub setting_in : Tokens → Parsed Setting
+abbrev pub setting_in : Tokens → Parsed (Option ValueStart)
 setting_in ts = placed a_setting ts
 
 abbrev pub name_or_close_in : Tokens → Parsed Bool

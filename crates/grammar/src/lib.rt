@@ -8,7 +8,7 @@ mod symbols;
 
 pub use fault::GrammarFault;
 pub use readers::{
-    Numeral, Setting, ValueStart, Word, any_symbol, decimal, expect, finish, name, name_or_close,
-    number, setter_value, string, value_start,
+    Numeral, ValueStart, Word, any_symbol, decimal, expect, finish, name, name_or_close, number,
+    setter_value, string, value_start,
 };
 pub use symbols::{Found, Symbol};

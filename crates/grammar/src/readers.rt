@@ -3,12 +3,12 @@
 ghost use Rattle.std.specs.Prelude.{◌≡◌, ℕ, ◌<◌, OnOk};
 ghost use Rattle.tokens.specs.Terminals.{count};
 ghost use Rattle.tokens.specs.Reading.{rest};
-ghost use Rattle.grammar.specs.Readers.{left, word, name_in, decimal_in, string_in, number_in, symbol_in, expect_in, finish_in, value_start_in, setting_in, name_or_close_in};
+ghost use Rattle.grammar.specs.Readers.{left, word, start_at, name_in, decimal_in, string_in, number_in, symbol_in, expect_in, finish_in, value_start_in, setting_in, name_or_close_in};
 
 use crate::fault::GrammarFault;
 use crate::symbols::{Found, Symbol};
 use text_bytes::Mark;
-use tokens::{Reader, Token};
+use tokens::{Placed, Reader, Token};
 
 // Bytes of the text, and the place of the token that they are of.
 #[derive(Clone, Copy)]
@@ -30,11 +30,18 @@ pub enum ValueStart {
     Digits(Numeral),
 }
 
-// What a setter sets: a name or a string, which is whole, or a value, which has begun.
-#[derive(Clone, Copy)]
-pub enum Setting {
-    Whole,
-    Value(ValueStart),
+// How a value begins with this token, if one does.
+fn start_of(t: Placed<'_>) -> Option<ValueStart>
+    ensures { result ≡ start_at t.entry }
+{
+    match t.token {
+        Token::Mark(Mark::Minus) => Some(ValueStart::Minus(t.place)),
+        Token::Number(value) => Some(ValueStart::Digits(Numeral {
+            value,
+            place: t.place,
+        })),
+        _ => None,
+    }
 }
 
 pub fn name<'a>(r: &mut Reader<'a>) -> Result<Word<'a>, GrammarFault>
@@ -141,33 +148,18 @@ pub fn value_start<'a>(r: &mut Reader<'a>) -> Result<ValueStart, GrammarFault>
     ensures on { OnOk result (count (rest r.new) < count (rest r.old)) }
 {
     let t = r.next()?;
-    match t.token {
-        Token::Mark(Mark::Minus) => Ok(ValueStart::Minus(t.place)),
-        Token::Number(value) => Ok(ValueStart::Digits(Numeral {
-            value,
-            place: t.place,
-        })),
-        _ => Err(GrammarFault::NotAllowed(t.place)),
-    }
+    start_of(t).ok_or(GrammarFault::NotAllowed(t.place))
 }
 
-// A name, a string, a minus or a number.
-pub fn setter_value<'a>(r: &mut Reader<'a>) -> Result<Setting, GrammarFault>
+// A name, a string, a minus or a number: the start of the value, where a value is set.
+pub fn setter_value<'a>(r: &mut Reader<'a>) -> Result<Option<ValueStart>, GrammarFault>
     ensures told { left (λ s. s) result (rest r.new) ≡ setting_in (rest r.old) }
     ensures on { OnOk result (count (rest r.new) < count (rest r.old)) }
 {
     let t = r.next()?;
     match t.token {
-        Token::Name(_) => Ok(Setting::Whole),
-        Token::Quoted(_) => Ok(Setting::Whole),
-        Token::Mark(Mark::Minus) => Ok(Setting::Value(ValueStart::Minus(t.place))),
-        Token::Number(value) => {
-            Ok(Setting::Value(ValueStart::Digits(Numeral {
-                value,
-                place: t.place,
-            })))
-        }
-        _ => Err(GrammarFault::NotAllowed(t.place)),
+        Token::Name(_) | Token::Quoted(_) => Ok(None),
+        _ => Ok(Some(start_of(t).ok_or(GrammarFault::NotAllowed(t.place))?)),
     }
 }
 

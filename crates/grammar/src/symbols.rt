@@ -2,30 +2,15 @@
 
 ghost use Rattle.std.specs.Prelude.{◌≡◌};
 ghost use Rattle.grammar.specs.Symbols.{same_symbol};
-ghost use Rattle.std.specs.Cmp.Rules.{comparing};
-ghost use Rattle.std.proofs.Common.{rules};
+ghost use Rattle.grammar.specs.declared.symbols.Symbol.TheVariants as sy;
 
 use keywords::Keyword;
 use text_bytes::Mark;
 
-#[derive(Clone, Copy)]
+#[derive(Clone, Copy, PartialEq, Eq)]
 pub enum Symbol {
     Keyword(Keyword),
     Mark(Mark),
-}
-
-impl PartialEq for Symbol {
-    ghost eq = { λ a b. same_symbol a b };
-
-    ghost laws = { Prim.search (comparing, rules) };
-
-    fn eq(&self, other: &Symbol) -> bool {
-        match (*self, *other) {
-            (Symbol::Keyword(a), Symbol::Keyword(b)) => a == b,
-            (Symbol::Mark(a), Symbol::Mark(b)) => a == b,
-            _ => false,
-        }
-    }
 }
 
 // A keyword or mark that was read, and its place.
@@ -33,4 +18,18 @@ impl PartialEq for Symbol {
 pub struct Found {
     pub symbol: Symbol,
     pub place: usize,
+}
+
+impl Found {
+    pub fn is_keyword(self, k: Keyword) -> bool
+        ensures { result ≡ same_symbol self.symbol (sy.Keyword k) }
+    {
+        self.symbol == Symbol::Keyword(k)
+    }
+
+    pub fn is_mark(self, m: Mark) -> bool
+        ensures { result ≡ same_symbol self.symbol (sy.Mark m) }
+    {
+        self.symbol == Symbol::Mark(m)
+    }
 }

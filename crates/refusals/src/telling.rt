@@ -35,15 +35,15 @@ impl RuleFault {
         ensures { result ≡ (rule_told self).place }
     {
         match self {
-            RuleFault::DeclaredBefore(place) => place,
-            RuleFault::NotDeclared(place) => place,
-            RuleFault::WrongKind(place) => place,
-            RuleFault::OutOfRange(place) => place,
-            RuleFault::Repeated(place) => place,
-            RuleFault::TableFull(place) => place,
-            RuleFault::ReturnNotListed(place) => place,
-            RuleFault::TooDeep(place) => place,
-            RuleFault::NoSortBin(place) => place,
+            RuleFault::DeclaredBefore(place)
+            | RuleFault::NotDeclared(place)
+            | RuleFault::WrongKind(place)
+            | RuleFault::OutOfRange(place)
+            | RuleFault::Repeated(place)
+            | RuleFault::TableFull(place)
+            | RuleFault::ReturnNotListed(place)
+            | RuleFault::TooDeep(place)
+            | RuleFault::NoSortBin(place) => place,
         }
     }
 }
@@ -67,8 +67,7 @@ impl LoadFault {
         ensures { result ≡ (told self).place }
     {
         match self {
-            LoadFault::NoBytes => 0,
-            LoadFault::TooManyBytes => 0,
+            LoadFault::NoBytes | LoadFault::TooManyBytes => 0,
             LoadFault::Grammar(GrammarFault::Token(e)) => e.place(),
             LoadFault::Grammar(GrammarFault::NotAllowed(place)) => place,
             LoadFault::Rule(e) => e.place(),
@@ -79,8 +78,7 @@ impl LoadFault {
         ensures { result ≡ (told self).finder }
     {
         match self {
-            LoadFault::NoBytes => Finder::SizeCheck,
-            LoadFault::TooManyBytes => Finder::SizeCheck,
+            LoadFault::NoBytes | LoadFault::TooManyBytes => Finder::SizeCheck,
             LoadFault::Grammar(GrammarFault::Token(_)) => Finder::TokenReader,
             LoadFault::Grammar(GrammarFault::NotAllowed(_)) => Finder::Grammar,
             LoadFault::Rule(_) => Finder::PlanRules,
