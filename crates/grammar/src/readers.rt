@@ -124,11 +124,7 @@ pub fn expect<'a>(r: &mut Reader<'a>, wanted: Symbol) -> Result<(), GrammarFault
     ensures told { left (λ u. u) result (rest r.new) ≡ expect_in wanted (rest r.old) }
     ensures on { OnOk result (count (rest r.new) < count (rest r.old)) }
 {
-    let found = any_symbol(r)?;
-    if found.symbol != wanted {
-        return Err(GrammarFault::NotAllowed(found.place));
-    }
-    Ok(())
+    any_symbol(r)?.must_be(wanted)
 }
 
 // The end of the text.
