@@ -1,0 +1,3 @@
+pub mod Desks
+pub mod Naming
+pub mod Following

@@ -1,0 +1,11 @@
+// Where a plan text is read into tables.
+
+use plan::Tables;
+use tokens::Reader;
+
+// Names of rows are parts of the text, so it lies beside the tables.
+pub struct Desk<'a, 't> {
+    pub reader: Reader<'a>,
+    pub text: &'a [u8],
+    pub tables: &'t mut Tables,
+}

@@ -1,0 +1,13 @@
+//! What the productions of a plan text share: the desk that they work at, names, lists, and rows that follow one another.
+
+#![tactic(auto)]
+
+mod desk;
+mod following;
+mod lists;
+mod naming;
+
+pub use desk::Desk;
+pub use following::{Row, rows};
+pub use lists::{Entry, another, list};
+pub use naming::{declared, fresh, is_runnable, named};

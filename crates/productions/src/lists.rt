@@ -1,0 +1,55 @@
+// Lists: entries with commas between them, and the mark that ends the list.
+
+ghost use Rattle.std.specs.Prelude.{◌≡◌, ℕ, ◌<◌, List, OnOk};
+ghost use Rattle.tokens.specs.Terminals.{Tokens, count};
+ghost use Rattle.tokens.specs.Reading.{rest};
+ghost use Rattle.grammar.specs.Readers.{left};
+ghost use Rattle.plan.specs.Drafts.{Draft};
+ghost use Rattle.refusals.specs.Shapes.{another_in};
+ghost use Rattle.refusals.specs.Steps.{Loaded};
+ghost use Rattle.productions.specs.Desks.{Reads, rows};
+ghost use Rattle.productions.specs.Following.{list_in};
+
+use crate::desk::Desk;
+use grammar::{GrammarFault, any_symbol};
+use refusals::LoadFault;
+use text_bytes::Mark;
+use tokens::Reader;
+
+pub trait Entry {
+    ghost production: { Self → List ℕ → Draft → Tokens → Loaded Draft };
+
+    fn read<'a, 't>(&self, desk: &mut Desk<'a, 't>) -> Result<(), LoadFault>
+        ensures { Reads (production self.now) (λ _. rows desk.new) desk.old desk.new result };
+}
+
+// Whether a comma stands here, so that another entry follows, or the last mark.
+pub fn another<'a>(r: &mut Reader<'a>, last: Mark) -> Result<bool, GrammarFault>
+    ensures told { left (λ more. more) result (rest r.new) ≡ another_in last (rest r.old) }
+    ensures on { OnOk result (count (rest r.new) < count (rest r.old)) }
+{
+    let next = any_symbol(r)?;
+    if next.is_mark(Mark::Comma) {
+        return Ok(true);
+    }
+    if next.is_mark(last) {
+        return Ok(false);
+    }
+    Err(GrammarFault::NotAllowed(next.place))
+}
+
+// entry (, entry)* last
+pub fn list<'a, 't, E: Entry>(
+    entry: &E,
+    desk: &mut Desk<'a, 't>,
+    last: Mark,
+) -> Result<(), LoadFault>
+    ensures { Reads (list_in last (E.production entry.now)) (λ _. rows desk.new) desk.old desk.new result }
+{
+    loop {
+        entry.read(desk)?;
+        if !another(&mut desk.reader, last)? {
+            return Ok(());
+        }
+    }
+}
