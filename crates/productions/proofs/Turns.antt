@@ -11,7 +11,12 @@ use Rattle.refusals.specs.declared.fault.LoadFault.TheVariants.{Grammar}
 use Rattle.refusals.specs.Shapes.{another_in, row_turn}
 use Rattle.refusals.specs.Steps.{Loaded, parse, then}
 use Rattle.refusals.proofs.Repeating.{Going, goes_on, ends, stops}
+use Rattle.productions.specs.declared.desk.Desk.{Desk}
+use Rattle.productions.specs.Desks.{Same, text}
 use Rattle.productions.specs.Following.{list_turn}
+
+pub same_on : {a b c : Desk} → Same a b → text c ≡ text b → c.tables.ghost_name ≡ b.tables.ghost_name → Same a c
+same_on p t n = record { text = t ∙ p.text; tables = n ∙ p.tables }
 
 module _ {S : Type 0} (begins : Found → Bool) (row : Found → List ℕ → S → Tokens → Loaded S) {x y : List ℕ} (same : x ≡ y) {s : S} {f : Found} {ts : Tokens} {whole : Loaded (S × Found)} (h : Going (row_turn begins (λ next. row next y)) (s, f) ts whole) where
   -- a row begins

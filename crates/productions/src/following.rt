@@ -6,11 +6,12 @@ ghost use Rattle.grammar.specs.declared.symbols.Found.{Found};
 ghost use Rattle.plan.specs.Drafts.{Draft};
 ghost use Rattle.refusals.specs.Steps.{Loaded};
 ghost use Rattle.productions.specs.Desks.{Reads, MayRead, rows};
-ghost use Rattle.productions.specs.Following.{rows_in};
+ghost use Rattle.productions.specs.Following.{rows_in, some_rows_in, braced_in};
 
 use crate::desk::Desk;
-use grammar::{Found, any_symbol};
+use grammar::{Found, GrammarFault, Symbol, any_symbol, expect};
 use refusals::LoadFault;
+use text_bytes::Mark;
 
 pub trait Row {
     // Whether the symbol read last begins a row.
@@ -40,4 +41,28 @@ pub fn rows<'a, 't, R: Row>(
         next = any_symbol(&mut desk.reader)?;
     }
     Ok(next)
+}
+
+// One row at least.
+pub fn some_rows<'a, 't, R: Row>(
+    row: &R,
+    desk: &mut Desk<'a, 't>,
+    first: Found,
+) -> Result<Found, LoadFault>
+    ensures { MayRead (some_rows_in (R.begins row.now) (R.production row.now) first) (λ next. (rows desk.new, next)) desk.old desk.new result }
+{
+    if !row.begins(first) {
+        return Err(GrammarFault::NotAllowed(first.place).into());
+    }
+    rows(row, desk, first)
+}
+
+// { row row .. }
+pub fn braced<'a, 't, R: Row>(row: &R, desk: &mut Desk<'a, 't>) -> Result<(), LoadFault>
+    ensures { Reads (braced_in (R.begins row.now) (R.production row.now)) (λ _. rows desk.new) desk.old desk.new result }
+{
+    expect(&mut desk.reader, Symbol::Mark(Mark::OpenBrace))?;
+    let first = any_symbol(&mut desk.reader)?;
+    let next = some_rows(row, desk, first)?;
+    Ok(next.must_be(Symbol::Mark(Mark::CloseBrace))?)
 }

@@ -8,6 +8,6 @@ mod lists;
 mod naming;
 
 pub use desk::Desk;
-pub use following::{Row, rows};
+pub use following::{Row, braced, rows, some_rows};
 pub use lists::{Entry, another, list};
 pub use naming::{declared, fresh, is_runnable, named};

@@ -1,6 +1,6 @@
 use Rattle.std.proofs.Common.{arith, sym, ◌∙◌}
 use Rattle.std.proofs.lemmas.Result.{err_from_is_err_and}
-use Rattle.productions.proofs.Turns.{row_on, row_over, row_stops, behind_stops}
+use Rattle.productions.proofs.Turns.{same_on, row_on, row_over, row_stops, behind_stops}
 use Rattle.productions.proofs.following.rows.Goals as goal
 
 pub loop-desk-preserved : goal.loop-desk-preserved
@@ -11,7 +11,7 @@ loop-desk-preserved g c =
     record {
       going = row_on (g.R.Row.begins c.args.row.now) (g.R.Row.production c.args.row.now) so_far.same.text so_far.going (sym c.begins.ensures ∙ c.loop-desk-test.true) _ _ read.told _ _ next.told read.on next.on;
       on = omega (arith, read.on, next.on, so_far.on);
-      same = record { text = read.same.text ∙ so_far.same.text; tables = read.same.tables ∙ so_far.same.tables };
+      same = same_on so_far.same read.same.text read.same.tables;
     }
 
 pub returns : goal.returns
@@ -27,7 +27,7 @@ returns-in_err-read g c =
     rw (p.1, p.2) (record {
       told = row_stops (g.R.Row.begins c.args.row.now) (g.R.Row.production c.args.row.now) so_far.same.text so_far.going (sym c.begins.ensures ∙ c.loop-desk-test.true) _ read.told;
       on = tt;
-      same = record { text = read.same.text ∙ so_far.same.text; tables = read.same.tables ∙ so_far.same.tables };
+      same = same_on so_far.same read.same.text read.same.tables;
     })
 
 pub returns-in_err-next : goal.returns-in_err-next
@@ -38,5 +38,5 @@ returns-in_err-next g c =
     rw (p.1, p.2) (record {
       told = behind_stops (g.R.Row.begins c.args.row.now) (g.R.Row.production c.args.row.now) so_far.same.text so_far.going (sym c.begins.ensures ∙ c.loop-desk-test.true) _ _ read.told _ c.in_err-next.ensures.told;
       on = tt;
-      same = record { text = read.same.text ∙ so_far.same.text; tables = read.same.tables ∙ so_far.same.tables };
+      same = same_on so_far.same read.same.text read.same.tables;
     })

@@ -1,6 +1,6 @@
-use Rattle.std.proofs.Common.{arith, sym, ap, ◌∙◌, rules}
+use Rattle.std.proofs.Common.{arith, sym, ap, ◌∙◌}
 use Rattle.std.proofs.lemmas.Result.{err_from_is_err_and}
-use Rattle.productions.proofs.Turns.{entry_on, entry_last, entry_stops, comma_stops}
+use Rattle.productions.proofs.Turns.{same_on, entry_on, entry_last, entry_stops, comma_stops}
 use Rattle.productions.proofs.lists.list.Goals as goal
 
 pub loop-desk-preserved : goal.loop-desk-preserved
@@ -11,7 +11,7 @@ loop-desk-preserved g c =
     record {
       going = entry_on c.args.last (g.E.Entry.production c.args.entry.now) so_far.same.text so_far.going _ _ read.told _ more.told read.on more.on;
       on = omega (arith, read.on, more.on, so_far.on);
-      same = record { text = read.same.text ∙ so_far.same.text; tables = read.same.tables ∙ so_far.same.tables };
+      same = same_on so_far.same read.same.text read.same.tables;
     }
 
 pub returns-then-not-branch : goal.returns-then-not-branch
@@ -22,7 +22,7 @@ returns-then-not-branch g c =
     record {
       told = entry_last c.args.last (g.E.Entry.production c.args.entry.now) so_far.same.text so_far.going _ _ read.told _ more.told;
       on = omega (arith, read.on, more.on, so_far.on);
-      same = record { text = read.same.text ∙ so_far.same.text; tables = read.same.tables ∙ so_far.same.tables };
+      same = same_on so_far.same read.same.text read.same.tables;
     }
 
 pub returns-in_err-read : goal.returns-in_err-read
@@ -33,7 +33,7 @@ returns-in_err-read g c =
     rw (p.1, p.2) (record {
       told = entry_stops c.args.last (g.E.Entry.production c.args.entry.now) so_far.same.text so_far.going _ read.told;
       on = tt;
-      same = record { text = read.same.text ∙ so_far.same.text; tables = read.same.tables ∙ so_far.same.tables };
+      same = same_on so_far.same read.same.text read.same.tables;
     })
 
 pub returns-in_err-another : goal.returns-in_err-another
@@ -44,5 +44,5 @@ returns-in_err-another g c =
     rw (p.1, p.2) (record {
       told = comma_stops c.args.last (g.E.Entry.production c.args.entry.now) so_far.same.text so_far.going _ _ read.told _ c.in_err-another.ensures.told;
       on = tt;
-      same = record { text = read.same.text ∙ so_far.same.text; tables = read.same.tables ∙ so_far.same.tables };
+      same = same_on so_far.same read.same.text read.same.tables;
     })
