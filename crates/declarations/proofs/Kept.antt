@@ -1,12 +1,11 @@
 -- What the counters and the tests of an accepted plan keep, and the tokens that they leave.
-use Rattle.std.proofs.Common.{◌≡◌, ℕ, suc, ◌<◌, ◌≤◌, Bool, true, false, cond, leb, List, [], ◌∷◌, ◌++◌, map, length, is_some, Some, Ok, sym, refl, ap, ◌∙◌, subst, append_assoc, arith, length-append}
+use Rattle.std.proofs.Common.{◌≡◌, ℕ, suc, ◌<◌, ◌≤◌, Bool, true, false, cond, leb, List, [], ◌∷◌, ◌++◌, map, length, is_some, Some, None, Ok, Option, sym, refl, ap, ◌∙◌, subst, append_assoc, arith, length-append}
 use Rattle.std.proofs.lemmas.List.{append-nil, map-append}
 use Rattle.std.proofs.lemmas.Bool.{leb-false, or_parts}
 use Rattle.std.specs.List.{slice_get}
 use Rattle.text_bytes.specs.declared.kinds.Mark.TheVariants as mk
 use Rattle.tokens.specs.Terminals.{Tokens, count}
-use Rattle.grammar.specs.declared.readers.Setting.{Setting}
-use Rattle.grammar.specs.declared.readers.Setting.TheVariants.{Whole, Value}
+use Rattle.grammar.specs.declared.readers.ValueStart.{ValueStart}
 use Rattle.grammar.specs.declared.symbols.Found.{Found}
 use Rattle.grammar.specs.declared.symbols.Symbol.TheVariants.{Mark}
 use Rattle.grammar.specs.Symbols.{same_symbol}
@@ -26,8 +25,10 @@ use Rattle.refusals.proofs.Passing.{accepted, parse_passed, then_passed, refuse_
 use Rattle.refusals.proofs.Spelled.{NamesAt, want_leaves, placed_leaves, expect_leaves, name_at}
 use Rattle.values.specs.Values.{value_from}
 use Rattle.values.proofs.Left.{value_from_leaves}
-use Rattle.declarations.specs.Counters.{another_in, counter_turn, counters_in}
-use Rattle.declarations.specs.Tests.{name_known, test_name_in, setting_on, setting_in, setter_turn, setters_in, test_in}
+use Rattle.declarations.specs.Counters.{counter_in, counter_turn, counters_in}
+use Rattle.productions.specs.Naming.{runnable_in}
+use Rattle.productions.proofs.Leaving.{another_leaves, entered}
+use Rattle.declarations.specs.Tests.{test_name_in, setting_on, setting_in, setter_turn, setters_in, test_in}
 
 -- counters were added to the tables of `start`, whose other tables and numbers are the same
 pub record CountersKept (text : List ℕ) (start e : Draft) : Type 0 where
@@ -55,15 +56,6 @@ pub record TestKept (text : List ℕ) (start e : Draft) : Type 0 where
   pub fit : length e.tests ≤ 128
 
 module _ (text : List ℕ) where
-  another_leaves : (ts : Tokens) (more : Bool) (us : Tokens) → another_in ts ≡ Ok (more, us) → NamesAt text ts → NamesAt text us
-  another_leaves ts more us h n =
-      let next = parse_passed (symbol_in ts) h in
-      by next.v next.us (same_symbol next.v.symbol (Mark mk.Comma)) (want_leaves text _ _ ts next.v next.us next.is n) next.goes
-    where
-      by : (f : Found) (vs : Tokens) (t : Bool) → NamesAt text vs → cond t (Ok (true, vs)) (allow (same_symbol f.symbol (Mark mk.CloseBrace)) f.place (Ok (false, vs))) ≡ Ok (more, us) → NamesAt text us
-      by f vs true n h = subst (NamesAt text) (accepted h).1 n
-      by f vs false n h = subst (NamesAt text) (accepted (allow_passed (same_symbol f.symbol (Mark mk.CloseBrace)) f.place _ h).1).1 n
-
   module _ (start : Draft) where
     abbrev Counted : Draft → Tokens → Type 0
     Counted d ts = CountersKept text start d × NamesAt text ts
@@ -89,17 +81,16 @@ module _ (text : List ℕ) where
     -- a counter
     counter_kept : (d : Draft) (ts : Tokens) (more : Bool) (e : Draft) (us : Tokens) → counter_turn text d ts ≡ Ok ((more, e), us) → Counted d ts → Counted e us
     counter_kept d ts more e us h c =
-        let n = parse_passed (name_in ts) h in
+        let one = entered mk.CloseBrace (counter_in text) d ts more e us h in
+        let n = parse_passed (name_in ts) one.read in
         let new = refuse_passed (is_some (found (λ k. k.name) text d.counters n.v.0)) (DeclaredBefore n.v.1) _ n.goes in
         let room = refuse_passed (leb 32 (length d.counters)) (TableFull n.v.1) _ new.1 in
-        let another = then_passed (another_in n.us) room.1 in
-        let made = accepted another.goes in
+        let made = accepted room.1 in
         let row : Counter = record { name = record { place = n.v.1; len = length n.v.0 } } in
         let spelled = name_at text ts n.v n.us n.is c.1 in
-        let once = once_row (λ k. spelt text k.name) d.counters row c.0.names (λ i is. none_found (λ k. k.name) text n.v.0 d.counters new.0 i (is ∙ ap Some spelled)) in
-        let left = another_leaves n.us another.v another.us another.is (want_leaves text _ _ ts n.v n.us n.is c.1) in (
-          subst (λ x. CountersKept text start x.1) made.0 (one_more row d c.0 once (leb-false 32 (length d.counters) room.0)),
-          subst (NamesAt text) made.1 left,
+        let once = once_row (λ k. spelt text k.name) d.counters row c.0.names (λ i is. none_found (λ k. k.name) text n.v.0 d.counters new.0 i (is ∙ ap Some spelled)) in (
+          subst (CountersKept text start) made.0 (one_more row d c.0 once (leb-false 32 (length d.counters) room.0)),
+          another_leaves text mk.CloseBrace one.behind more us one.next (subst (NamesAt text) made.1 (want_leaves text _ _ ts n.v n.us n.is c.1)),
         )
 
   pub none_yet : (d : Draft) → Once (map (λ k. spelt text k.name) d.counters) → length d.counters ≤ 32 → CountersKept text d d
@@ -134,9 +125,9 @@ module _ (text : List ℕ) where
       let begun = parse_passed (setting_begun ts) h in
       by begun.v begun.us (placed_leaves text _ ts begun.v begun.us begun.is n) begun.goes
     where
-      by : (s : Setting) (vs : Tokens) → NamesAt text vs → setting_on s vs ≡ Ok (v, us) → NamesAt text us
-      by Whole vs n h = subst (NamesAt text) (accepted h).1 n
-      by (Value start) vs n h =
+      by : (s : Option ValueStart) (vs : Tokens) → NamesAt text vs → setting_on s vs ≡ Ok (v, us) → NamesAt text us
+      by None vs n h = subst (NamesAt text) (accepted h).1 n
+      by (Some start) vs n h =
           let value = then_passed (value_from start vs) h in
           subst (NamesAt text) (accepted value.goes).1 (value_from_leaves text start vs value.v value.us value.is n)
 
@@ -167,7 +158,7 @@ module _ (text : List ℕ) where
   test_name_new d ts name us h names =
       let class = parse_passed (name_in ts) h in
       let n = parse_passed (name_in class.us) class.goes in
-      let new = refuse_passed (name_known text d.tests d.flows n.v.0) (DeclaredBefore n.v.1) _ n.goes in
+      let new = refuse_passed (runnable_in text d.tests d.flows n.v.0) (DeclaredBefore n.v.1) _ n.goes in
       let free = or_parts (is_some (found (λ t. t.name) text d.tests n.v.0)) (is_some (found (λ f. f.name) text d.flows n.v.0)) new.0 in
       let made = accepted new.1 in
       let left = want_leaves text _ _ ts class.v class.us class.is names in

@@ -1,9 +1,8 @@
 -- What is read of a test, as a row of a draft, or the first rule that is broken.
-use Rattle.std.specs.Prelude.{ℕ, Bool, ◌||◌, List, length, is_some, Ok, nat_le}
+use Rattle.std.specs.Prelude.{ℕ, Bool, ◌||◌, List, length, is_some, Some, None, Ok, Option, nat_le}
 use Rattle.text_bytes.specs.declared.kinds.Mark.TheVariants as mk
 use Rattle.tokens.specs.Terminals.{Tokens}
-use Rattle.grammar.specs.declared.readers.Setting.{Setting}
-use Rattle.grammar.specs.declared.readers.Setting.TheVariants.{Whole, Value}
+use Rattle.grammar.specs.declared.readers.ValueStart.{ValueStart}
 use Rattle.grammar.specs.declared.symbols.Symbol.TheVariants.{Mark}
 use Rattle.grammar.specs.Readers.{name_in, expect_in, name_or_close_in}
 use Rattle.grammar.specs.Readers.{setting_in as setting_begun}
@@ -13,25 +12,22 @@ use Rattle.plan.specs.declared.rows.Flow.{Flow}
 use Rattle.plan.specs.Drafts.{Draft, with_test}
 use Rattle.names.specs.Names.{found}
 use Rattle.refusals.specs.declared.fault.RuleFault.TheVariants.{DeclaredBefore, TableFull}
+use Rattle.productions.specs.Naming.{name_at, runnable_in}
 use Rattle.refusals.specs.Steps.{Loaded, parse, then, refuse, many}
 use Rattle.values.specs.Values.{value_from}
-
--- a test or a flow has this name; they share one set of names
-abbrev pub name_known : List ℕ → List Test → List Flow → List ℕ → Bool
-name_known text tests flows word = is_some (found (λ t. t.name) text tests word) || is_some (found (λ f. f.name) text flows word)
 
 -- name name   the class, which may be any name, and the test's own
 abbrev pub test_name_in : List ℕ → Draft → Tokens → Loaded Name
 test_name_in text d ts =
     parse (name_in ts) λ _ ts.
     parse (name_in ts) λ n ts.
-    refuse (name_known text d.tests d.flows n.0) (DeclaredBefore n.1)
-    (Ok (record { place = n.1; len = length n.0 }, ts))
+    refuse (runnable_in text d.tests d.flows n.0) (DeclaredBefore n.1)
+    (Ok (name_at n, ts))
 
 -- a name or a string, which is whole, or a value, which has begun
-abbrev pub setting_on : Setting → Tokens → Loaded (Unit {0})
-setting_on Whole ts = Ok (tt, ts)
-setting_on (Value start) ts = then (value_from start ts) λ _ ts. Ok (tt, ts)
+abbrev pub setting_on : Option ValueStart → Tokens → Loaded (Unit {0})
+setting_on None ts = Ok (tt, ts)
+setting_on (Some start) ts = then (value_from start ts) λ _ ts. Ok (tt, ts)
 
 -- name | string | value
 abbrev pub setting_in : Tokens → Loaded (Unit {0})

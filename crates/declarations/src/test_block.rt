@@ -3,53 +3,27 @@
 ghost use Rattle.std.specs.Prelude.{◌≡◌, ℕ, ◌+◌, ◌<◌, ◌≤◌, IfOk, if◌then◌else◌, OnOk};
 ghost use Rattle.tokens.specs.Terminals.{count};
 ghost use Rattle.tokens.specs.Reading.{rest};
-ghost use Rattle.plan.specs.Drafts.{drafted};
 ghost use Rattle.refusals.specs.Steps.{ended, many};
-ghost use Rattle.declarations.specs.Tests.{name_known, test_name_in, setting_in, setter_turn, setters_in, test_in};
+ghost use Rattle.productions.specs.Desks.{Reads, rows};
+ghost use Rattle.declarations.specs.Tests.{setting_in, setter_turn, setters_in, test_in};
 
-use grammar::{Setting, Symbol, expect, name, name_or_close, setter_value};
-use names::find;
-use plan::{Flow, MOST_TESTS, Name, Tables, Test};
+use grammar::{Symbol, expect, name, name_or_close, setter_value};
+use plan::{MOST_TESTS, Test};
+use productions::{Desk, is_runnable, named};
 use refusals::{LoadFault, RuleFault};
 use text_bytes::Mark;
 use tokens::Reader;
 use values::value_from;
-
-// Whether a test or a flow has this name; they share one set of names.
-fn name_known(tests: &[Test], flows: &[Flow], text: &[u8], word: &[u8]) -> bool
-    ensures { result ≡ name_known text.now tests.now flows.now word.now }
-{
-    find(tests, text, word).is_some() || find(flows, text, word).is_some()
-}
-
-// name name
-fn test_name<'a>(r: &mut Reader<'a>, text: &[u8], t: &Tables) -> Result<Name, LoadFault>
-    ensures told { ended (λ n. n) result (rest r.new) ≡ test_name_in text.now (drafted t.now) (rest r.old) }
-    ensures on { OnOk result (count (rest r.new) < count (rest r.old)) }
-{
-    name(r)?;
-    let n = name(r)?;
-    if name_known(t.tests.as_slice(), t.flows.as_slice(), text, n.bytes) {
-        return Err(LoadFault::Rule(RuleFault::DeclaredBefore(n.place)));
-    }
-    Ok(Name {
-        place: n.place,
-        len: n.bytes.len(),
-    })
-}
 
 // name | string | value
 fn setting<'a>(r: &mut Reader<'a>) -> Result<(), LoadFault>
     ensures told { ended (λ u. u) result (rest r.new) ≡ setting_in (rest r.old) }
     ensures on { OnOk result (count (rest r.new) < count (rest r.old)) }
 {
-    match setter_value(r)? {
-        Setting::Whole => Ok(()),
-        Setting::Value(start) => {
-            value_from(r, start)?;
-            Ok(())
-        }
+    if let Some(start) = setter_value(r)? {
+        value_from(r, start)?;
     }
+    Ok(())
 }
 
 // A setter behind its name, and whether the name of another follows.
@@ -82,21 +56,26 @@ fn setters<'a>(r: &mut Reader<'a>) -> Result<(), LoadFault>
     setters_on(r)
 }
 
-// name name { setter+ }
-pub fn test<'a>(
-    r: &mut Reader<'a>,
-    text: &[u8],
-    t: &mut Tables,
-    place: usize,
-) -> Result<(), LoadFault>
-    ensures told { ended (λ _. drafted t.new) result (rest r.new) ≡ test_in text.now place (drafted t.old) (rest r.old) }
-    ensures on { OnOk result (count (rest r.new) < count (rest r.old)) }
+// name name { setter+ }: the class, which may be any name, the test's own name, and what it sets
+#[tactic(auto, unfolding(crate::specs::Tests::test_in))]
+pub fn test<'a, 't>(desk: &mut Desk<'a, 't>, place: usize) -> Result<(), LoadFault>
+    ensures { Reads (λ text. test_in text place) (λ _. rows desk.new) desk.old desk.new result }
 {
+    let t = &mut *desk.tables;
     if t.tests.len() >= MOST_TESTS {
-        return Err(LoadFault::Rule(RuleFault::TableFull(place)));
+        return Err(RuleFault::TableFull(place).into());
     }
-    let name = test_name(r, text, t)?;
-    setters(r)?;
-    t.add_test(Test { name });
+    name(&mut desk.reader)?;
+    let word = name(&mut desk.reader)?;
+    if is_runnable(
+        t.tests.as_slice(),
+        t.flows.as_slice(),
+        desk.text,
+        word.bytes,
+    ) {
+        return Err(RuleFault::DeclaredBefore(word.place).into());
+    }
+    setters(&mut desk.reader)?;
+    t.add_test(Test { name: named(word) });
     Ok(())
 }
