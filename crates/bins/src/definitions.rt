@@ -5,6 +5,7 @@ ghost use Rattle.tokens.specs.Terminals.{count};
 ghost use Rattle.tokens.specs.Reading.{rest};
 ghost use Rattle.plan.specs.Drafts.{drafted};
 ghost use Rattle.refusals.specs.Steps.{ended, many};
+ghost use Rattle.productions.specs.Desks.{Reads, rows};
 ghost use Rattle.bins.specs.Bins.{group_turn, sort_group_in, definitions_in, bins_in};
 
 use crate::group::group;
@@ -16,6 +17,7 @@ use plan::Tables;
 use refusals::{LoadFault, RuleFault};
 use text_bytes::Mark;
 use tokens::Reader;
+use productions::Desk;
 
 // A group and the symbol behind it, where one begins.
 fn group_turn<'a>(
@@ -88,10 +90,16 @@ fn definitions<'a>(r: &mut Reader<'a>, text: &[u8], t: &mut Tables) -> Result<()
 }
 
 // BinDefs { group+ SortBinGroup = name ; }
-pub fn bins<'a>(r: &mut Reader<'a>, text: &[u8], t: &mut Tables) -> Result<(), LoadFault>
+fn bins_by<'a>(r: &mut Reader<'a>, text: &[u8], t: &mut Tables) -> Result<(), LoadFault>
     ensures told { ended (λ _. drafted t.new) result (rest r.new) ≡ bins_in text.now (drafted t.old) (rest r.old) }
     ensures on { OnOk result (count (rest r.new) < count (rest r.old)) }
 {
     expect(r, Symbol::Keyword(Keyword::BinDefs))?;
     definitions(r, text, t)
+}
+
+pub fn bins<'a, 't>(desk: &mut Desk<'a, 't>) -> Result<(), LoadFault>
+    ensures { Reads bins_in (λ _. rows desk.new) desk.old desk.new result }
+{
+    bins_by(&mut desk.reader, desk.text, &mut *desk.tables)
 }

@@ -6,6 +6,7 @@ ghost use Rattle.tokens.specs.Reading.{rest};
 ghost use Rattle.plan.specs.Drafts.{drafted};
 ghost use Rattle.refusals.specs.Steps.{ended, many};
 ghost use Rattle.flows.specs.Checks.{deepest, become};
+ghost use Rattle.productions.specs.Desks.{Reads, rows};
 ghost use Rattle.flows.specs.Flows.{item_turn, items_in, runnable, closed, flow_in};
 
 use crate::checks::{deepest_run, resolve, rows_from};
@@ -17,6 +18,7 @@ use plan::{Flow, MOST_FLOWS, Name, Span, Tables};
 use refusals::{LoadFault, RuleFault};
 use text_bytes::Mark;
 use tokens::Reader;
+use productions::Desk;
 
 // An item and the symbol behind it, where one begins.
 fn item_turn<'a>(
@@ -102,7 +104,7 @@ fn close_flow(
 }
 
 // name { item+ } behind the keyword at `place`
-pub fn flow<'a>(
+fn flow_by<'a>(
     r: &mut Reader<'a>,
     text: &[u8],
     t: &mut Tables,
@@ -132,4 +134,10 @@ pub fn flow<'a>(
         from,
     )?;
     Ok(())
+}
+
+pub fn flow<'a, 't>(desk: &mut Desk<'a, 't>, place: usize) -> Result<(), LoadFault>
+    ensures { Reads (λ text. flow_in text place) (λ _. rows desk.new) desk.old desk.new result }
+{
+    flow_by(&mut desk.reader, desk.text, &mut *desk.tables, place)
 }

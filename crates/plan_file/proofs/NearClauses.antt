@@ -7,8 +7,6 @@ use Rattle.text_bytes.specs.declared.kinds.Mark.TheVariants as mk
 use Rattle.keywords.specs.declared.Keyword.TheVariants as kw
 use Rattle.tokens.specs.Terminals.{Tokens}
 use Rattle.tokens.specs.Spelling.{Within}
-use Rattle.grammar.specs.declared.readers.Setting.{Setting}
-use Rattle.grammar.specs.declared.readers.Setting.TheVariants.{Whole, Value as ValueBegun}
 use Rattle.grammar.specs.declared.readers.ValueStart.{ValueStart}
 use Rattle.grammar.specs.declared.readers.ValueStart.TheVariants.{Minus, Digits}
 use Rattle.grammar.specs.declared.symbols.Found.{Found}
@@ -23,7 +21,8 @@ use Rattle.names.specs.Names.{found}
 use Rattle.refusals.specs.Shapes.{is_keyword, is_mark}
 use Rattle.values.specs.Values.{placed_value, leaving, value_from, value_in}
 use Rattle.declarations.specs.Counters as c
-use Rattle.declarations.specs.Tests.{name_known, test_name_in, setting_on, setter_turn, setters_in, test_in}
+use Rattle.productions.specs.Naming.{runnable_in}
+use Rattle.declarations.specs.Tests.{test_name_in, setting_on, setter_turn, setters_in, test_in}
 use Rattle.clauses.specs.Clauses.{values_full, room_from, listed_in, value_turn, verdict_of, property_in, mention_in, mention_turn, mentions_in, leaf_of, leaf_in, next_in, end_in, body_in, clause_in}
 use Rattle.clauses.specs.Parts.{among}
 use Rattle.plan_file.proofs.Nearby.{Near, Any, made, failed, either_near, StartNear, SettingNear, spot_near, number_near, symbol_near, name_or_close_near, value_start_near, setting_near, expect_near, another_near, parse_near, then_near, have_near, optional_near, many_near}
@@ -49,19 +48,18 @@ module _ {n : ℕ} where
 
   -- counters
 
-  follows_near : (ts : Tokens) → Within n ts → Near n Any (c.another_in ts)
-  follows_near ts w =
-      parse_near (symbol_near ts w) λ f ts l w.
-      either_near (is_mark mk.Comma f) (made tt w)
-      (either_near (is_mark mk.CloseBrace f) (made tt w) (failed l))
-
-  counter_turn_near : (text : List ℕ) (d : Draft) (ts : Tokens) → BinsNear n d → Within n ts → Near n (λ v. BinsNear n v.1) (c.counter_turn text d ts)
-  counter_turn_near text d ts b w =
+  counter_near : (text : List ℕ) (d : Draft) (ts : Tokens) → BinsNear n d → Within n ts → Near n (BinsNear n) (c.counter_in text d ts)
+  counter_near text d ts b w =
       parse_near (spot_near _ ts w) λ v ts l w.
       either_near (is_some (found (λ k. k.name) text d.counters v.0)) (failed l)
       (either_near (leb 32 (length d.counters)) (failed l)
-      (then_near (follows_near ts w) λ more ts _ w.
-      made b w))
+      (made b w))
+
+  counter_turn_near : (text : List ℕ) (d : Draft) (ts : Tokens) → BinsNear n d → Within n ts → Near n (λ v. BinsNear n v.1) (c.counter_turn text d ts)
+  counter_turn_near text d ts b w =
+      then_near (counter_near text d ts b w) λ d ts b w.
+      parse_near (another_near _ ts w) λ more ts _ w.
+      made b w
 
   pub counters_near : (text : List ℕ) (d : Draft) (ts : Tokens) → BinsNear n d → Within n ts → Near n (BinsNear n) (c.counters_in text d ts)
   unfolding c.counters_in
@@ -75,12 +73,12 @@ module _ {n : ℕ} where
   test_name_near text d ts w =
       parse_near (spot_near _ ts w) λ _ ts _ w.
       parse_near (spot_near _ ts w) λ v ts l w.
-      either_near (name_known text d.tests d.flows v.0) (failed l)
+      either_near (runnable_in text d.tests d.flows v.0) (failed l)
       (made tt w)
 
-  setting_on_near : (s : Setting) (ts : Tokens) → SettingNear n s → Within n ts → Near n Any (setting_on s ts)
-  setting_on_near Whole ts l w = made tt w
-  setting_on_near (ValueBegun start) ts l w =
+  setting_on_near : (s : Option ValueStart) (ts : Tokens) → SettingNear n s → Within n ts → Near n Any (setting_on s ts)
+  setting_on_near None ts l w = made tt w
+  setting_on_near (Some start) ts l w =
       then_near (value_from_near start ts l w) λ _ ts _ w.
       made tt w
 

@@ -7,8 +7,6 @@ use Rattle.keywords.specs.declared.Keyword.{Keyword}
 use Rattle.tokens.specs.Terminals.{Terminal, Tokens, count}
 use Rattle.tokens.specs.Terminals as t
 use Rattle.tokens.specs.Spelling.{Within}
-use Rattle.grammar.specs.declared.readers.Setting.{Setting}
-use Rattle.grammar.specs.declared.readers.Setting.TheVariants.{Whole, Value}
 use Rattle.grammar.specs.declared.readers.ValueStart.{ValueStart}
 use Rattle.grammar.specs.declared.readers.ValueStart.TheVariants.{Minus, Digits}
 use Rattle.grammar.specs.declared.symbols.Found.{Found}
@@ -62,9 +60,9 @@ abbrev pub StartNear : ℕ → ValueStart → Type 0
 StartNear n (Minus p) = p ≤ n
 StartNear n (Digits m) = m.place ≤ n
 
-abbrev pub SettingNear : ℕ → Setting → Type 0
-SettingNear n Whole = Unit {0}
-SettingNear n (Value start) = StartNear n start
+abbrev pub SettingNear : ℕ → Option ValueStart → Type 0
+SettingNear n None = Unit {0}
+SettingNear n (Some start) = StartNear n start
 
 module _ {n : ℕ} where
   taken_near : {X Y : Type 0} {P : Y → Type 0} (f : X → ℕ → Y) (o : Option X) (p : ℕ) (ts : Tokens) → Given (λ x. P (f x p)) o → p ≤ n → Within n ts → Read n P (taken f o p ts)
@@ -114,7 +112,7 @@ module _ {n : ℕ} where
       by p (t.number m) l = l
       by p (t.decimal bs) l = tt
       by p (t.string bs) l = tt
-      by p (t.mark m) l = given_where (SettingNear n) (same_mark m mk.Minus) (Value (Minus p)) l
+      by p (t.mark m) l = given_where (SettingNear n) (same_mark m mk.Minus) (Some (Minus p)) l
 
   pub expect_near : (s : Symbol) (ts : Tokens) → Within n ts → Read n Any (expect_in s ts)
   expect_near s ts w = by (symbol_near ts w)

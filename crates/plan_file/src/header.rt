@@ -9,8 +9,9 @@ ghost use Rattle.plan_file.specs.File.{header_in};
 use grammar::{Symbol, decimal, expect, name};
 use keywords::Keyword;
 use plan::Name;
+use productions::named;
 use refusals::{LoadFault, RuleFault};
-use text_bytes::{Mark, same_bytes};
+use text_bytes::Mark;
 use tokens::Reader;
 
 // Version decimal ; TestPlan name ;
@@ -20,15 +21,12 @@ pub fn header<'a>(r: &mut Reader<'a>) -> Result<Name, LoadFault>
 {
     expect(r, Symbol::Keyword(Keyword::Version))?;
     let version = decimal(r)?;
-    if !same_bytes(version.bytes, b"1.0") {
-        return Err(LoadFault::Rule(RuleFault::OutOfRange(version.place)));
+    if version.bytes != b"1.0".as_slice() {
+        return Err(RuleFault::OutOfRange(version.place).into());
     }
     expect(r, Symbol::Mark(Mark::Semicolon))?;
     expect(r, Symbol::Keyword(Keyword::TestPlan))?;
-    let n = name(r)?;
+    let title = name(r)?;
     expect(r, Symbol::Mark(Mark::Semicolon))?;
-    Ok(Name {
-        place: n.place,
-        len: n.bytes.len(),
-    })
+    Ok(named(title))
 }

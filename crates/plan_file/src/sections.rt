@@ -1,104 +1,72 @@
 // What follows the bins.
 
-ghost use Rattle.std.specs.Prelude.{◌≡◌, ℕ, ◌+◌, ◌<◌, ◌≤◌, IfOk, if◌then◌else◌, OnOk};
-ghost use Rattle.keywords.specs.declared.Keyword.TheVariants.{Counters as CountersWord};
+ghost use Rattle.std.specs.Prelude.{◌≡◌, ℕ, ◌<◌, OnOk};
+ghost use Rattle.keywords.specs.declared.Keyword.TheVariants as kw;
 ghost use Rattle.tokens.specs.Terminals.{count};
 ghost use Rattle.tokens.specs.Reading.{rest};
 ghost use Rattle.plan.specs.Drafts.{drafted};
-ghost use Rattle.refusals.specs.Steps.{ended, many};
-ghost use Rattle.refusals.specs.Shapes.{optional};
+ghost use Rattle.refusals.specs.Steps.{ended};
+ghost use Rattle.refusals.specs.Shapes.{is_keyword, optional};
+ghost use Rattle.productions.specs.Desks.{Reads, MayRead, rows};
 ghost use Rattle.declarations.specs.Counters.{counters_in};
-ghost use Rattle.plan_file.specs.File.{test_turn, flow_turn, main_name_in, main_in, flows_in, sections_in};
+ghost use Rattle.declarations.specs.Tests.{test_in};
+ghost use Rattle.flows.specs.Flows.{flow_in};
+ghost use Rattle.plan_file.specs.File.{main_name_in, main_in, flows_in, sections_in};
 
 use declarations::{counters, test};
 use flows::flow;
-use grammar::{Found, GrammarFault, Symbol, any_symbol, expect, name};
+use grammar::{Found, Symbol, any_symbol, expect, name};
 use keywords::Keyword;
 use names::find;
 use plan::Tables;
+use productions::{Desk, Row, rows, some_rows};
 use refusals::{LoadFault, RuleFault};
 use text_bytes::Mark;
 use tokens::Reader;
 
+#[derive(Clone, Copy)]
+struct TestRow;
+
+impl Row for TestRow {
+    ghost begins = { λ _. is_keyword kw.Test };
+
+    ghost production = { λ _ next text. test_in text next.place };
+
+    fn begins(&self, next: Found) -> bool {
+        next.is_keyword(Keyword::Test)
+    }
+
+    fn read<'a, 't>(&self, desk: &mut Desk<'a, 't>, next: Found) -> Result<(), LoadFault> {
+        test(desk, next.place)
+    }
+}
+
+#[derive(Clone, Copy)]
+struct FlowRow;
+
+impl Row for FlowRow {
+    ghost begins = { λ _. is_keyword kw.Flow };
+
+    ghost production = { λ _ next text. flow_in text next.place };
+
+    fn begins(&self, next: Found) -> bool {
+        next.is_keyword(Keyword::Flow)
+    }
+
+    fn read<'a, 't>(&self, desk: &mut Desk<'a, 't>, next: Found) -> Result<(), LoadFault> {
+        flow(desk, next.place)
+    }
+}
+
 // [counters], and the symbol behind it
-fn maybe_counters<'a>(
-    r: &mut Reader<'a>,
-    text: &[u8],
-    t: &mut Tables,
-    next: &mut Found,
-) -> Result<(), LoadFault>
-    ensures told { ended (λ _. (drafted t.new, next.new)) result (rest r.new) ≡ optional CountersWord (drafted t.old) (counters_in text.now (drafted t.old)) next.old (rest r.old) }
-    ensures on { OnOk result (count (rest r.new) ≤ count (rest r.old)) }
+fn maybe_counters<'a, 't>(desk: &mut Desk<'a, 't>, first: Found) -> Result<Found, LoadFault>
+    ensures { MayRead (λ text d. optional kw.Counters d (counters_in text d) first) (λ next. (rows desk.new, next)) desk.old desk.new result }
 {
-    if next.symbol == Symbol::Keyword(Keyword::Counters) {
-        counters(r, text, t)?;
-        *next = any_symbol(r)?;
+    if !first.is_keyword(Keyword::Counters) {
+        return Ok(first);
     }
-    Ok(())
-}
-
-// A test and the symbol behind it, where one begins.
-fn test_turn<'a>(
-    r: &mut Reader<'a>,
-    text: &[u8],
-    t: &mut Tables,
-    next: &mut Found,
-) -> Result<bool, LoadFault>
-    ensures told { ended (λ more. (more, (drafted t.new, next.new))) result (rest r.new) ≡ test_turn text.now (drafted t.old, next.old) (rest r.old) }
-    ensures on { IfOk result (λ more. count (rest r.new) + (if more then 1 else 0) ≤ count (rest r.old)) }
-{
-    if next.symbol != Symbol::Keyword(Keyword::Test) {
-        return Ok(false);
-    }
-    test(r, text, t, next.place)?;
-    *next = any_symbol(r)?;
-    Ok(true)
-}
-
-// test test .. up to a symbol that begins no test
-fn tests<'a>(
-    r: &mut Reader<'a>,
-    text: &[u8],
-    t: &mut Tables,
-    next: &mut Found,
-) -> Result<(), LoadFault>
-    ensures told { ended (λ _. (drafted t.new, next.new)) result (rest r.new) ≡ many (test_turn text.now) (drafted t.old, next.old) (rest r.old) }
-    ensures on { OnOk result (count (rest r.new) ≤ count (rest r.old)) }
-{
-    while test_turn(r, text, t, next)? {}
-    Ok(())
-}
-
-// A flow and the symbol behind it, where one begins.
-fn flow_turn<'a>(
-    r: &mut Reader<'a>,
-    text: &[u8],
-    t: &mut Tables,
-    next: &mut Found,
-) -> Result<bool, LoadFault>
-    ensures told { ended (λ more. (more, (drafted t.new, next.new))) result (rest r.new) ≡ flow_turn text.now (drafted t.old, next.old) (rest r.old) }
-    ensures on { IfOk result (λ more. count (rest r.new) + (if more then 1 else 0) ≤ count (rest r.old)) }
-{
-    if next.symbol != Symbol::Keyword(Keyword::Flow) {
-        return Ok(false);
-    }
-    flow(r, text, t, next.place)?;
-    *next = any_symbol(r)?;
-    Ok(true)
-}
-
-// flow flow .. up to a symbol that begins no flow
-fn flows<'a>(
-    r: &mut Reader<'a>,
-    text: &[u8],
-    t: &mut Tables,
-    next: &mut Found,
-) -> Result<(), LoadFault>
-    ensures told { ended (λ _. (drafted t.new, next.new)) result (rest r.new) ≡ many (flow_turn text.now) (drafted t.old, next.old) (rest r.old) }
-    ensures on { OnOk result (count (rest r.new) ≤ count (rest r.old)) }
-{
-    while flow_turn(r, text, t, next)? {}
-    Ok(())
+    counters(desk)?;
+    Ok(any_symbol(&mut desk.reader)?)
 }
 
 // The name of the main flow.
@@ -111,53 +79,41 @@ fn main_name<'a>(r: &mut Reader<'a>, text: &[u8], t: &Tables) -> Result<usize, L
         return Ok(f);
     }
     if find(t.tests.as_slice(), text, n.bytes).is_some() {
-        return Err(LoadFault::Rule(RuleFault::WrongKind(n.place)));
+        return Err(RuleFault::WrongKind(n.place).into());
     }
-    Err(LoadFault::Rule(RuleFault::NotDeclared(n.place)))
+    Err(RuleFault::NotDeclared(n.place).into())
 }
 
 // { MainFlow = name ; }
-fn main_flow<'a>(r: &mut Reader<'a>, text: &[u8], t: &mut Tables) -> Result<(), LoadFault>
-    ensures told { ended (λ _. drafted t.new) result (rest r.new) ≡ main_in text.now (drafted t.old) (rest r.old) }
-    ensures on { OnOk result (count (rest r.new) < count (rest r.old)) }
+fn main_flow<'a, 't>(desk: &mut Desk<'a, 't>) -> Result<(), LoadFault>
+    ensures { Reads main_in (λ _. rows desk.new) desk.old desk.new result }
 {
-    expect(r, Symbol::Mark(Mark::OpenBrace))?;
-    expect(r, Symbol::Keyword(Keyword::MainFlow))?;
-    expect(r, Symbol::Mark(Mark::Equals))?;
-    let main = main_name(r, text, t)?;
-    expect(r, Symbol::Mark(Mark::Semicolon))?;
-    expect(r, Symbol::Mark(Mark::CloseBrace))?;
+    expect(&mut desk.reader, Symbol::Mark(Mark::OpenBrace))?;
+    expect(&mut desk.reader, Symbol::Keyword(Keyword::MainFlow))?;
+    expect(&mut desk.reader, Symbol::Mark(Mark::Equals))?;
+    let t = &mut *desk.tables;
+    let main = main_name(&mut desk.reader, desk.text, t)?;
+    expect(&mut desk.reader, Symbol::Mark(Mark::Semicolon))?;
+    expect(&mut desk.reader, Symbol::Mark(Mark::CloseBrace))?;
     t.main_flow = main;
     Ok(())
 }
 
 // flow+ FlowDefs { MainFlow = name ; } from the symbol that was read last
-fn flow_section<'a>(
-    r: &mut Reader<'a>,
-    text: &[u8],
-    t: &mut Tables,
-    next: &mut Found,
-) -> Result<(), LoadFault>
-    ensures told { ended (λ _. drafted t.new) result (rest r.new) ≡ flows_in text.now (drafted t.old, next.old) (rest r.old) }
-    ensures on { OnOk result (count (rest r.new) < count (rest r.old)) }
+fn flow_section<'a, 't>(desk: &mut Desk<'a, 't>, first: Found) -> Result<(), LoadFault>
+    ensures { Reads (λ text d. flows_in text (d, first)) (λ _. rows desk.new) desk.old desk.new result }
 {
-    if next.symbol != Symbol::Keyword(Keyword::Flow) {
-        return Err(LoadFault::Grammar(GrammarFault::NotAllowed(next.place)));
-    }
-    flows(r, text, t, next)?;
-    if next.symbol != Symbol::Keyword(Keyword::FlowDefs) {
-        return Err(LoadFault::Grammar(GrammarFault::NotAllowed(next.place)));
-    }
-    main_flow(r, text, t)
+    let next = some_rows(&FlowRow, desk, first)?;
+    next.must_be(Symbol::Keyword(Keyword::FlowDefs))?;
+    main_flow(desk)
 }
 
 // [counters] test* flow+ FlowDefs { MainFlow = name ; }
-pub fn sections<'a>(r: &mut Reader<'a>, text: &[u8], t: &mut Tables) -> Result<(), LoadFault>
-    ensures told { ended (λ _. drafted t.new) result (rest r.new) ≡ sections_in text.now (drafted t.old) (rest r.old) }
-    ensures on { OnOk result (count (rest r.new) < count (rest r.old)) }
+pub fn sections<'a, 't>(desk: &mut Desk<'a, 't>) -> Result<(), LoadFault>
+    ensures { Reads sections_in (λ _. rows desk.new) desk.old desk.new result }
 {
-    let mut next = any_symbol(r)?;
-    maybe_counters(r, text, t, &mut next)?;
-    tests(r, text, t, &mut next)?;
-    flow_section(r, text, t, &mut next)
+    let first = any_symbol(&mut desk.reader)?;
+    let first = maybe_counters(desk, first)?;
+    let first = rows(&TestRow, desk, first)?;
+    flow_section(desk, first)
 }

@@ -4,6 +4,7 @@ use plan::Tables;
 use tokens::Reader;
 
 // Names of rows are parts of the text, so it lies beside the tables.
+#[derive(Drop)]
 pub struct Desk<'a, 't> {
     pub reader: Reader<'a>,
     pub text: &'a [u8],

@@ -1,4 +1,4 @@
-use Rattle.std.proofs.Common.{◌≡◌, ℕ, List, length, Ok, Err, Result, sym, ap, ◌∙◌, subst}
+use Rattle.std.proofs.Common.{◌≡◌, ℕ, List, length, Ok, Err, Result, sym, ap, ◌∙◌, subst, rules}
 use Rattle.tokens.specs.Reading.{rest}
 use Rattle.tokens.specs.Spelling.{Within}
 use Rattle.tokens.specs.Scanning.{tokens_from}
@@ -6,6 +6,7 @@ use Rattle.tokens.proofs.Readings.{the_reading}
 use Rattle.plan.specs.declared.rows.Name.{Name}
 use Rattle.plan.specs.Drafts.{Draft, drafted, blank}
 use Rattle.refusals.specs.declared.fault.LoadFault.{LoadFault}
+use Rattle.productions.specs.Desks.{rows}
 use Rattle.plan_file.specs.File.{file_in, filed, Kept, PlaceWithin}
 use Rattle.plan_file.proofs.Kept.{file_kept}
 use Rattle.plan_file.proofs.NearFile.{file_near}
@@ -24,11 +25,12 @@ answer_near n text (Err e) d h w = subst (PlaceWithin n) (sym h) (file_near n te
 pub returns : goal.returns
 returns c =
     let text = c.args.text.now in
-    let all : rest c.new-r.result ≡ tokens_from text 0 = (the_reading text 0).only _ c.new-r.ensures.reading.reads in
-    let told : filed c.file.result (drafted c.file.new.t) ≡ file_in text blank (tokens_from text 0) = c.file.ensures ∙ (ap (λ d. file_in text d (rest c.new-r.result)) c.clear.ensures ∙ ap (λ ts. file_in text blank ts) all) in
-    let within : Within (length text) (tokens_from text 0) = subst (Within (length text)) all c.new-r.ensures.within in
+    let all : rest c.new.result ≡ tokens_from text 0 = (the_reading text 0).only _ c.new.ensures.reading.reads in
+    let told : filed c.file.result (rows c.file.new.desk) ≡ file_in text blank (tokens_from text 0) = c.file.ensures.told ∙ (ap (λ d. file_in text d (rest c.new.result)) c.clear.ensures ∙ ap (λ ts. file_in text blank ts) all) in
+    let within : Within (length text) (tokens_from text 0) = subst (Within (length text)) all c.new.ensures.within in
+    let kept : Kept text c.file.result (rows c.file.new.desk) = answer_kept text c.file.result (rows c.file.new.desk) told in
     record {
-      told = told;
-      kept = answer_kept text c.file.result (drafted c.file.new.t) told;
-      near = answer_near (length text) text c.file.result (drafted c.file.new.t) told within;
+      told = search rules;
+      kept = search rules;
+      near = answer_near (length text) text c.file.result (rows c.file.new.desk) told within;
     }

@@ -4,7 +4,7 @@ use Rattle.plan.specs.Drafts.{drafted}
 use Rattle.flows.specs.Checks.{deepest}
 use Rattle.flows.specs.Flows.{flow_in}
 use Rattle.flows.proofs.Keeping.{items_added, items_behind}
-use Rattle.flows.proofs.flow_block.flow.Goals as goal
+use Rattle.flows.proofs.flow_block.flow_by.Goals as goal
 
 pub returns-then-len-ge-MOST_FLOWS : goal.returns-then-len-ge-MOST_FLOWS
 unfolding flow_in

@@ -1,6 +1,6 @@
 use Rattle.std.proofs.Common.{rules}
 use Rattle.bins.specs.Bins.{bins_in}
-use Rattle.bins.proofs.definitions.bins.Goals as goal
+use Rattle.bins.proofs.definitions.bins_by.Goals as goal
 
 pub returns-in_err-expect : goal.returns-in_err-expect
 unfolding bins_in
