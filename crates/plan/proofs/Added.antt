@@ -1,6 +1,7 @@
 -- A row more at the end of a table.
 use Rattle.std.proofs.Common.{◌≡◌, ℕ, zero, suc, ◌+◌, ◌<◌, ◌≤◌, ◌⊎◌, List, [], ◌∷◌, ◌++◌, map, length, Some, Option, sym, refl, ap, ◌∙◌, subst, inl, inr, arith}
 use Rattle.std.proofs.lemmas.List.{map-append}
+use Rattle.std.proofs.lemmas.Option.{slice_get_within}
 use Rattle.std.specs.List.{slice_get}
 use Rattle.plan.specs.Rules.{Once}
 use Rattle.plan.proofs.Spans.{never_some}
@@ -10,9 +11,7 @@ the_same e = cc
 
 -- what stands in a list stands below its length
 pub nth_below : {X : Type 0} (xs : List X) (i : ℕ) (x : X) → slice_get xs i ≡ Some x → i < length xs
-nth_below [] i x e = never_some x e
-nth_below (y ∷ xs) zero x e = omega arith
-nth_below (y ∷ xs) (suc i) x e = omega (arith, nth_below xs i x e)
+nth_below = slice_get_within
 
 -- what stands in the longer list stood there before, or is the last
 abbrev pub Earlier : {X : Type 0} → List X → X → ℕ → X → Type 0

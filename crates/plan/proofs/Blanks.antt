@@ -5,9 +5,6 @@ use Rattle.plan.specs.Meaning.{meaning, nothing, depths}
 use Rattle.plan.specs.Rules.{Keeps, NamesOnce, DepthsTold, Once}
 use Rattle.plan.proofs.Spans.{never_some}
 
-pub no_rows : (d : Draft) → d.groups ≡ [] → d.bins ≡ [] → d.counters ≡ [] → d.tests ≡ [] → d.flows ≡ [] → d.items ≡ [] → d.clauses ≡ [] → d.values ≡ [] → d.mentions ≡ [] → d.sort_group ≡ 0 → d.main_flow ≡ 0 → d ≡ blank
-no_rows d g b k s f i c v m n o = λ j. record { groups = g j; bins = b j; counters = k j; tests = s j; flows = f j; items = i j; clauses = c j; values = v j; mentions = m j; sort_group = n j; main_flow = o j }
-
 pub blank_means : (d : Draft) → d ≡ blank → meaning d ≡ nothing
 unfolding meaning
 blank_means d e = ap meaning e

@@ -1,7 +1,8 @@
 -- The clause of an item that lists a value, by its number and by what it means.
-use Rattle.std.proofs.Common.{◌≡◌, ℕ, suc, ◌+◌, ◌<◌, ◌≤◌, Bool, true, false, cond, List, [], ◌∷◌, map, length, get_or, Some, None, Option, sym, refl, ap, ◌∙◌, arith}
+use Rattle.std.proofs.Common.{◌≡◌, ℕ, suc, ◌+◌, Bool, true, false, cond, List, [], ◌∷◌, map, Some, None, Option, sym, refl, ap, ◌∙◌, arith}
 use Rattle.std.specs.Option.{option_map}
-use Rattle.std.specs.List.{between, slice_get}
+use Rattle.std.specs.List.{position, position_from, slice_get}
+use Rattle.std.proofs.lemmas.Iterator.Adapters.{position_from-zero}
 use Rattle.plan.specs.declared.rows.Clause.{Clause}
 use Rattle.plan.specs.declared.rows.Item.{Item}
 use Rattle.plan.specs.declared.rows.Value.{Value}
@@ -9,20 +10,22 @@ use Rattle.plan.specs.Drafts.{Draft}
 use Rattle.plan.specs.Meaning.{meaning, code_of, rows_of, lists, clause_of, item_of, clause_for, clauses_at, clauses_in, PlanItem, PlanClause}
 use Rattle.plan.specs.Finding.{seek_clause, clause_number_in, clause_number, clause_meant}
 use Rattle.plan.proofs.Readings.{nth_map}
-use Rattle.plan.proofs.Spans.{span_step, span_past, nth_between}
+use Rattle.plan.proofs.Spans.{counted_on, nth_between}
 
--- one clause on
+-- the first of the clauses that lists the value, by its place among them
 
-module _ (values : List Value) (v : ℕ) (cs : List Clause) (k to : ℕ) where
-  module _ (d : Clause) (h : k < to) (l : k < length cs) where
-    pub seek_hit : lists v (map code_of (rows_of (get_or cs k d).values values)) ≡ true → seek_clause values v k (between k to cs) ≡ Some k
-    seek_hit e = span_step (seek_clause values v k) cs k to d h l ∙ rw e
+module _ (values : List Value) (v : ℕ) where
+  abbrev pub listing : Clause → Bool
+  listing c = lists v (map code_of (rows_of c.values values))
 
-    pub seek_miss : lists v (map code_of (rows_of (get_or cs k d).values values)) ≡ false → seek_clause values v (k + 1) (between (k + 1) to cs) ≡ seek_clause values v k (between k to cs)
-    seek_miss e = sym (span_step (seek_clause values v k) cs k to d h l ∙ rw e)
+  from_place : (cs : List Clause) (k : ℕ) → seek_clause values v k cs ≡ position_from listing k cs
+  from_place [] k = refl
+  from_place (c ∷ cs) k = ap (cond (listing c) (Some k)) (from_place cs (k + 1))
 
-  pub seek_past : length cs ≤ k → seek_clause values v k (between k to cs) ≡ None
-  seek_past l = span_past (seek_clause values v k) cs k to l
+  pub sought : (k : ℕ) (cs : List Clause) (r : Option ℕ) → r ≡ position listing cs → option_map (λ i. k + i) r ≡ seek_clause values v k cs
+  sought k cs r e =
+      let z : k + 0 ≡ k = omega arith in
+      ap (option_map (λ i. k + i)) (e ∙ position_from-zero listing cs) ∙ sym (counted_on listing k 0 cs) ∙ ap (λ n. position_from listing n cs) z ∙ sym (from_place cs k)
 
 -- what the clause that is found means
 

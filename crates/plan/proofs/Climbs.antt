@@ -1,43 +1,40 @@
 -- Going up from a bin.
-use Rattle.std.proofs.Common.{◌≡◌, ℕ, zero, suc, ◌-◌, ◌<◌, ◌≤◌, Bool, true, false, cond, eqb, List, [], ◌∷◌, map, length, get_or, is_some, Some, None, Option, sym, refl, ap, ◌∙◌, inl, inr, arith}
+use Rattle.std.proofs.Common.{◌≡◌, ℕ, zero, suc, ◌<◌, Bool, true, false, cond, eqb, ◌==◌, List, map, length, is_some, Some, None, Option, sym, refl, ap, ◌∙◌, inl, inr, arith}
 use mathlib.Core.Bool.{Bool-set}
 use mathlib.Core.Logic.{∥∥₁_elim}
 use lib.ListN.{length-map}
-use Rattle.std.specs.Option.{option_map}
+use Rattle.std.specs.Option.{option_map, option_and_then}
 use Rattle.std.specs.List.{slice_get}
-use Rattle.std.proofs.lemmas.Option.{slice_get-get_or, slice_get_past}
+use Rattle.std.proofs.lemmas.Option.{slice_get-map, slice_get_within}
 use Rattle.std.proofs.lemmas.Bool.{eq-eqb, ne_eqb, eqb-true, eqb-false}
 use Rattle.plan.specs.declared.rows.Bin.{Bin}
 use Rattle.plan.specs.Drafts.{Draft}
 use Rattle.plan.specs.Meaning.{Meaning, PlanBin, meaning, bin_of, parent_in, AtOrAbove, here, up, number_in, at_parent, number_up, in_group, sort_number}
 use Rattle.plan.specs.Rules.{Keeps, ParentEarlier, SortBin}
-use Rattle.plan.specs.Finding.{LeafAt, itself, further, SortedAs}
-use Rattle.plan.proofs.Readings.{nth_map}
+use Rattle.plan.specs.Finding.{group_at, first_of_group, LeafAt, itself, further, SortedAs}
 use Rattle.plan.proofs.Spans.{never_some}
 
--- one bin on
+-- from a bin of another group it goes on at the parent
+pub climb_on : (bins : List Bin) (g n at p : ℕ) (b : Bin) → slice_get bins at ≡ Some b → (b.group ≡ g → ⊥) → b.parent ≡ Some p → first_of_group bins g n p ≡ first_of_group bins g (suc n) at
+climb_on bins g n at p b e m f = sym (ap (group_at g (first_of_group bins g n)) e ∙ rw (ne_eqb _ _ m) (rw f))
 
-module _ (bins : List Bin) (g at : ℕ) where
-  pub up_past : (n : ℕ) → length bins ≤ at → number_up (map bin_of bins) g n at ≡ None
-  up_past zero h = refl
-  up_past (suc n) h = ap (λ (o : Option PlanBin). number_in o g (at_parent (number_up (map bin_of bins) g n))) (sym (nth_map bin_of bins at) ∙ ap (option_map bin_of) (slice_get_past bins at h))
+-- the number that is met is that of the first bin of the group
+module _ (bins : List Bin) (g : ℕ) where
+  pub number_met : (n at : ℕ) → number_up (map bin_of bins) g n at ≡ option_map (λ b. b.number) (first_of_group bins g n at)
+  number_met zero at = refl
+  number_met (suc n) at = ap (λ o. number_in o g (at_parent (number_up (map bin_of bins) g n))) (slice_get-map bin_of bins at) ∙ at_bin (slice_get bins at) (number_met n)
+    where
+      at_next : (o : Option ℕ) → ((p : ℕ) → number_up (map bin_of bins) g n p ≡ option_map (λ b. b.number) (first_of_group bins g n p)) → at_parent (number_up (map bin_of bins) g n) o ≡ option_map (λ b. b.number) (option_and_then (first_of_group bins g n) o)
+      at_next None h = refl
+      at_next (Some p) h = h p
 
-  module _ (d : Bin) (l : at < length bins) where
-    step : (n : ℕ) → 0 < n → number_up (map bin_of bins) g n at ≡ cond (eqb (get_or bins at d).group g) (Some (get_or bins at d).number) (at_parent (number_up (map bin_of bins) g (n - 1)) (get_or bins at d).parent)
-    step zero h = let y : ⊥ = omega arith in elim y [ ]
-    step (suc n) h =
-        let e : n ≡ suc n - 1 = omega arith in
-        ap (λ (o : Option PlanBin). number_in o g (at_parent (number_up (map bin_of bins) g n))) (sym (nth_map bin_of bins at) ∙ ap (option_map bin_of) (slice_get-get_or bins at d l))
-        ∙ ap (λ (k : ℕ). cond (eqb (get_or bins at d).group g) (Some (get_or bins at d).number) (at_parent (number_up (map bin_of bins) g k) (get_or bins at d).parent)) e
+      either_way : (t : Bool) (b : Bin) → ((p : ℕ) → number_up (map bin_of bins) g n p ≡ option_map (λ b. b.number) (first_of_group bins g n p)) → cond t (Some b.number) (at_parent (number_up (map bin_of bins) g n) b.parent) ≡ option_map (λ x. x.number) (cond t (Some b) (option_and_then (first_of_group bins g n) b.parent))
+      either_way true b h = refl
+      either_way false b h = at_next b.parent h
 
-    pub up_hit : (n : ℕ) → 0 < n → (get_or bins at d).group ≡ g → number_up (map bin_of bins) g n at ≡ Some (get_or bins at d).number
-    up_hit n h e = step n h ∙ rw (eq-eqb _ _ e)
-
-    pub up_end : (n : ℕ) → 0 < n → ((get_or bins at d).group ≡ g → ⊥) → (get_or bins at d).parent ≡ None → number_up (map bin_of bins) g n at ≡ None
-    up_end n h m e = step n h ∙ rw (ne_eqb _ _ m) (rw e)
-
-    pub up_on : (n p : ℕ) → 0 < n → ((get_or bins at d).group ≡ g → ⊥) → (get_or bins at d).parent ≡ Some p → number_up (map bin_of bins) g (n - 1) p ≡ number_up (map bin_of bins) g n at
-    up_on n p h m e = sym (step n h ∙ rw (ne_eqb _ _ m) (rw e))
+      at_bin : (o : Option Bin) → ((p : ℕ) → number_up (map bin_of bins) g n p ≡ option_map (λ b. b.number) (first_of_group bins g n p)) → number_in (option_map bin_of o) g (at_parent (number_up (map bin_of bins) g n)) ≡ option_map (λ b. b.number) (group_at g (first_of_group bins g n) o)
+      at_bin None h = refl
+      at_bin (Some b) h = either_way (b.group == g) b h
 
 -- the number of steps suffices
 
@@ -60,11 +57,6 @@ module _ (m : Meaning) (law : ParentEarlier m) where
   climbs i j (up s p t f a) b e (suc n) h =
       let less : p < s = earlier s p (slice_get m.bins s) refl f in
       one_up (slice_get m.bins s) b.group p (number_up m.bins b.group n) f (climbs p t a b e n (omega arith))
-
-within : {X : Type 0} (xs : List X) (i : ℕ) (x : X) → slice_get xs i ≡ Some x → i < length xs
-within [] i x e = never_some x e
-within (y ∷ xs) zero x e = omega arith
-within (y ∷ xs) (suc i) x e = let h = within xs i x e in omega arith
 
 -- a number that is met is that of the first bin of the sort group
 
@@ -109,14 +101,14 @@ leaf_sorted_lem m k i leaf =
       | inl e ↦ never_some leaf.bin (sym (ap (λ (x : Meaning). slice_get x.bins i) e) ∙ leaf.is)
       | inr l ↦ (let s = l.leaf_sorted i leaf.bin leaf.is leaf.leaf in
           ap (λ (o : Option ℕ). is_some (in_group (λ g. number_up m.bins g (length m.bins) i) o)) s.2.sorts
-          ∙ climbs m l.parent_earlier i s.0 s.1 s.2.bin s.2.is (length m.bins) (within m.bins i leaf.bin leaf.is))
+          ∙ climbs m l.parent_earlier i s.0 s.1 s.2.bin s.2.is (length m.bins) (slice_get_within m.bins i leaf.bin leaf.is))
     ])
 
 module _ (d : Draft) (i : ℕ) where
-  pub sort_number_is : (g : ℕ) (r : Option ℕ) → Some g ≡ (meaning d).sort_group → r ≡ number_up (map bin_of d.bins) g (length d.bins) i → r ≡ sort_number (meaning d) i
+  pub sort_number_is : (g : ℕ) (r : Option ℕ) → Some g ≡ (meaning d).sort_group → r ≡ option_map (λ b. b.number) (first_of_group d.bins g (length d.bins) i) → r ≡ sort_number (meaning d) i
   unfolding meaning sort_number
   sort_number_is g r e s =
-      s ∙ ap (λ (n : ℕ). number_up (map bin_of d.bins) g n i) (sym (length-map d.bins bin_of))
+      s ∙ sym (number_met d.bins g (length d.bins) i) ∙ ap (λ (n : ℕ). number_up (map bin_of d.bins) g n i) (sym (length-map d.bins bin_of))
       ∙ ap (in_group (λ h. number_up (map bin_of d.bins) h (length (map bin_of d.bins)) i)) e
 
   pub no_sort_number : None ≡ (meaning d).sort_group → None ≡ sort_number (meaning d) i

@@ -3,6 +3,7 @@ use Rattle.std.proofs.Common.{◌≡◌, ℕ, zero, suc, List, [], ◌∷◌, ma
 use lib.ListN.{length-map}
 use Rattle.std.specs.Option.{option_map}
 use Rattle.std.specs.List.{slice_get}
+use Rattle.std.proofs.lemmas.Option.{slice_get-map}
 use Rattle.plan.specs.declared.rows.Bin.{Bin}
 use Rattle.plan.specs.declared.rows.Flow.{Flow}
 use Rattle.plan.specs.declared.rows.Item.{Item}
@@ -12,9 +13,7 @@ use Rattle.plan.proofs.Added.{the_same}
 use Rattle.plan.proofs.Spans.{never_some}
 
 pub nth_map : {X Y : Type 0} (f : X → Y) (xs : List X) (i : ℕ) → option_map f (slice_get xs i) ≡ slice_get (map f xs) i
-nth_map f [] i = refl
-nth_map f (x ∷ xs) zero = refl
-nth_map f (x ∷ xs) (suc i) = nth_map f xs i
+nth_map f xs i = sym (slice_get-map f xs i)
 
 -- what stands in a mapped list is made of what stands in the list
 pub record MadeOf {X Y : Type 0} (f : X → Y) (xs : List X) (i : ℕ) (y : Y) : Type 0 where

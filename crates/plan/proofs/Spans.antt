@@ -1,33 +1,30 @@
 -- Rows of a span, one by one.
-use Rattle.std.proofs.Common.{◌≡◌, ℕ, zero, suc, ◌+◌, ◌-◌, ◌<◌, ◌≤◌, true, false, List, [], ◌∷◌, map, length, get_or, take, drop, Some, None, sym, refl, ap, ◌∙◌, arith}
-use Rattle.std.specs.List.{between, slice_get}
-use Rattle.std.proofs.lemmas.List.{drop_more, drop_all, take_all}
-use Rattle.std.proofs.lemmas.Bool.{eq-eqb, ne_eqb}
+use Rattle.std.proofs.Common.{◌≡◌, ℕ, zero, suc, ◌+◌, ◌-◌, ◌<◌, Bool, true, false, cond, ◌||◌, ◌==◌, List, [], ◌∷◌, map, take, drop, Some, None, sym, refl, ap, ◌∙◌, arith}
+use Rattle.std.specs.List.{between, list_any, position_from, slice_get}
+use Rattle.std.specs.Option.{option_map}
 use Rattle.plan.specs.declared.rows.Value.{Value}
 use Rattle.plan.specs.Meaning.{code_of, lists}
 
 pub never_some : {X Y : Type 0} (x : X) → None ≡ Some x → Y
 never_some x e = let z : ◌≡◌ {A = ℕ} 0 1 = cc in let y : ⊥ = omega arith in elim y [ ]
 
-module _ {X Y : Type 0} (F : List X → Y) (xs : List X) (k to : ℕ) where
-  pub span_step : (d : X) → k < to → k < length xs → F (between k to xs) ≡ F (get_or xs k d ∷ between (k + 1) to xs)
-  span_step d h l =
-      let n : to - k ≡ suc (to - (k + 1)) = omega arith in
-      ap (λ (ys : List X). F (take (to - k) ys)) (drop_more xs k d l) ∙ ap (λ (m : ℕ). F (take m (get_or xs k d ∷ drop (k + 1) xs))) n
+-- a value is listed where one of the values is it
+pub listed : (v : ℕ) (xs : List Value) → list_any (λ x. x.code == v) xs ≡ lists v (map code_of xs)
+listed v [] = refl
+listed v (x ∷ xs) = by (x.code == v) (listed v xs)
+  where
+    by : (t : Bool) → list_any (λ y. y.code == v) xs ≡ lists v (map code_of xs) → (t || list_any (λ y. y.code == v) xs) ≡ cond t true (lists v (map code_of xs))
+    by true later = refl
+    by false later = later
 
-  pub span_past : length xs ≤ k → F (between k to xs) ≡ F []
-  span_past l = ap (λ (ys : List X). F (take (to - k) ys)) (drop_all k xs l) ∙ ap F (take_all (to - k) [] (omega arith))
-
-module _ (v : ℕ) (xs : List Value) (k to : ℕ) where
-  module _ (d : Value) (h : k < to) (l : k < length xs) where
-    pub lists_hit : (get_or xs k d).code ≡ v → lists v (map code_of (between k to xs)) ≡ true
-    lists_hit e = span_step (λ ys. lists v (map code_of ys)) xs k to d h l ∙ rw (eq-eqb _ _ e)
-
-    pub lists_miss : ((get_or xs k d).code ≡ v → ⊥) → lists v (map code_of (between (k + 1) to xs)) ≡ lists v (map code_of (between k to xs))
-    lists_miss n = sym (span_step (λ ys. lists v (map code_of ys)) xs k to d h l ∙ rw (ne_eqb _ _ n))
-
-  pub lists_past : length xs ≤ k → lists v (map code_of (between k to xs)) ≡ false
-  lists_past l = span_past (λ ys. lists v (map code_of ys)) xs k to l
+-- a place counted from k on is so much more
+pub counted_on : {X : Type 0} (test : X → Bool) (k j : ℕ) (xs : List X) → position_from test (k + j) xs ≡ option_map (λ i. k + i) (position_from test j xs)
+counted_on test k j [] = refl
+counted_on test k j (x ∷ xs) = by (test x) (let one : k + j + 1 ≡ k + (j + 1) = omega arith in ap (λ n. position_from test n xs) one ∙ counted_on test k (j + 1) xs)
+  where
+    by : (t : Bool) → position_from test (k + j + 1) xs ≡ option_map (λ i. k + i) (position_from test (j + 1) xs) → cond t (Some (k + j)) (position_from test (k + j + 1) xs) ≡ option_map (λ i. k + i) (cond t (Some j) (position_from test (j + 1) xs))
+    by true later = refl
+    by false later = later
 
 -- a row of a span is a row of the table
 

@@ -1,5 +1,5 @@
 -- The tables of a plan as lists of rows, and its two numbers.
-use Rattle.std.specs.Prelude.{ℕ, List, [], ◌∷◌, ◌++◌, vec_items}
+use Rattle.std.specs.Prelude.{ℕ, List, [], ◌∷◌, ◌++◌}
 use Rattle.plan.specs.declared.rows.Group.{Group}
 use Rattle.plan.specs.declared.rows.Bin.{Bin}
 use Rattle.plan.specs.declared.rows.Counter.{Counter}
@@ -25,15 +25,15 @@ pub record Draft : Type 0 where
 
 abbrev pub drafted : Tables → Draft
 drafted t = record {
-  groups = vec_items t.groups;
-  bins = vec_items t.bins;
-  counters = vec_items t.counters;
-  tests = vec_items t.tests;
-  flows = vec_items t.flows;
-  items = vec_items t.items;
-  clauses = vec_items t.clauses;
-  values = vec_items t.values;
-  mentions = vec_items t.mentions;
+  groups = t.groups;
+  bins = t.bins;
+  counters = t.counters;
+  tests = t.tests;
+  flows = t.flows;
+  items = t.items;
+  clauses = t.clauses;
+  values = t.values;
+  mentions = t.mentions;
   sort_group = t.sort_group;
   main_flow = t.main_flow;
 }

@@ -1,7 +1,8 @@
 -- What a reader of a plan is told: the clause for a value, the sort number of a bin, the depth of a flow.
-use Rattle.std.specs.Prelude.{◌≡◌, ℕ, ◌+◌, ◌≤◌, true, cond, List, [], ◌∷◌, map, Some, None, Option, slice_index}
-use Rattle.std.specs.Option.{option_map}
+use Rattle.std.specs.Prelude.{◌≡◌, ℕ, zero, suc, ◌+◌, ◌≤◌, true, cond, List, [], ◌∷◌, map, Some, None, Option, ◌==◌, slice_index}
+use Rattle.std.specs.Option.{option_map, option_and_then}
 use Rattle.std.specs.List.{slice_get}
+use Rattle.plan.specs.declared.rows.Bin.{Bin}
 use Rattle.plan.specs.declared.rows.Clause.{Clause}
 use Rattle.plan.specs.declared.rows.Item.{Item}
 use Rattle.plan.specs.declared.rows.Value.{Value}
@@ -27,6 +28,16 @@ clause_number d i v = clause_number_in d v (slice_get d.items i)
 abbrev pub clause_meant : Draft → Option ℕ → Option PlanClause
 clause_meant d None = None
 clause_meant d (Some k) = option_map (clause_of d) (slice_get d.clauses k)
+
+-- this bin where it is of the group, else what is met from its parent on
+abbrev pub group_at : ℕ → (ℕ → Option Bin) → Option Bin → Option Bin
+group_at group above None = None
+group_at group above (Some b) = cond (b.group == group) (Some b) (option_and_then above b.parent)
+
+-- the first bin of the group that is met going up from the bin i, over this many bins at most
+abbrev pub first_of_group : List Bin → ℕ → ℕ → ℕ → Option Bin
+first_of_group bins group zero i = None
+first_of_group bins group (suc steps) i = group_at group (first_of_group bins group steps) (slice_get bins i)
 
 -- the bin is a leaf bin
 pub record LeafAt (m : Meaning) (i : ℕ) : Type 0 where

@@ -9,13 +9,6 @@ use crate::rows::Name;
 pub fn part_of(text: &[u8], name: Name) -> &[u8]
     ensures { result.now ≡ spelt text.now name }
 {
-    let from = name.place;
-    let len = name.len;
-    if from >= text.len() {
-        return &text[0..0];
-    }
-    if len >= text.len() - from {
-        return &text[from..];
-    }
-    &text[from..from + len]
+    let rest = text.get(name.place..).unwrap_or_default();
+    rest.get(..name.len).unwrap_or(rest)
 }

@@ -12,6 +12,8 @@ mod finding;
 mod making;
 mod reading;
 
+pub use finding::first_of_group;
+
 // The most bytes of a plan text.
 pub const MOST_BYTES: usize = 65536;
 

@@ -1,5 +1,8 @@
 // The rows of a plan's tables. Rows of a table are numbered from 0, in the order of the text, over the whole plan.
 
+ghost use Rattle.std.specs.Prelude.{◌≡◌};
+ghost use Rattle.plan.specs.Meaning.{rows_of};
+
 // A part of the plan text.
 #[derive(Clone, Copy)]
 pub struct Name {
@@ -14,8 +17,18 @@ pub struct Span {
     pub to: usize,
 }
 
+impl Span {
+    // The rows of the span, as far as the table goes.
+    pub fn of<T>(self, rows: &[T]) -> &[T]
+        ensures { result.now ≡ rows_of self rows.now }
+    {
+        rows.get(self.from..self.to.min(rows.len()))
+            .unwrap_or_default()
+    }
+}
+
 // A result value from -32768 to 32767, held as the value and 32768 more.
-#[derive(Clone, Copy)]
+#[derive(Clone, Copy, PartialEq, Eq)]
 pub struct Value {
     pub code: u16,
 }

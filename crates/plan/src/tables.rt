@@ -1,10 +1,8 @@
-// The tables of a plan, with room for as many rows as a plan may have.
-
-ghost use Rattle.std.specs.Prelude.{◌≤◌, vec_capacity};
+// The tables of a plan, each with room for as many rows as a plan may have.
 
 use crate::rows::{Bin, Clause, Counter, Flow, Group, Item, Test, Value};
+use crate::table::Table;
 
-mod filling;
 mod making;
 
 // The most rows of each table.
@@ -26,21 +24,19 @@ pub const MOST_VALUES: usize = 2048;
 
 pub const MOST_MENTIONS: usize = 2048;
 
-// Each table has room for its most rows, so that a row is added without asking for memory.
 #[derive(Drop)]
 pub struct Tables {
-    pub groups: Vec<Group>,
-    pub bins: Vec<Bin>,
-    pub counters: Vec<Counter>,
-    pub tests: Vec<Test>,
-    pub flows: Vec<Flow>,
-    pub items: Vec<Item>,
-    pub clauses: Vec<Clause>,
+    pub groups: Table<Group, MOST_GROUPS>,
+    pub bins: Table<Bin, MOST_BINS>,
+    pub counters: Table<Counter, MOST_COUNTERS>,
+    pub tests: Table<Test, MOST_TESTS>,
+    pub flows: Table<Flow, MOST_FLOWS>,
+    pub items: Table<Item, MOST_ITEMS>,
+    pub clauses: Table<Clause, MOST_CLAUSES>,
     // the values that clauses list
-    pub values: Vec<Value>,
+    pub values: Table<Value, MOST_VALUES>,
     // the counters that clauses name
-    pub mentions: Vec<usize>,
+    pub mentions: Table<usize, MOST_MENTIONS>,
     pub sort_group: usize,
     pub main_flow: usize,
-    ghost room: { ((16 ≤ vec_capacity groups) × (128 ≤ vec_capacity bins) × (32 ≤ vec_capacity counters)) × ((128 ≤ vec_capacity tests) × (64 ≤ vec_capacity flows) × (512 ≤ vec_capacity items)) × ((1024 ≤ vec_capacity clauses) × (2048 ≤ vec_capacity values) × (2048 ≤ vec_capacity mentions)) },
 }

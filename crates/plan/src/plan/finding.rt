@@ -1,79 +1,48 @@
 // Finding the clause for a value and the sort number of a bin.
 
-ghost use Rattle.std.specs.Prelude.{◌≡◌, ℕ, true, map, length, is_some, Some, None};
-ghost use Rattle.std.specs.List.{between, slice_get};
-ghost use Rattle.plan.specs.Meaning.{rows_of, code_of, bin_of, lists, clause_for, clauses_at, number_up, sort_number};
-ghost use Rattle.plan.specs.Finding.{seek_clause, clause_number, clause_meant, LeafAt, SortedAs};
+ghost use Rattle.std.specs.Prelude.{◌≡◌, ℕ, true, map, length, is_some, position, Some};
+ghost use Rattle.plan.specs.Meaning.{rows_of, code_of, lists, clause_for, clauses_at, sort_number};
+ghost use Rattle.plan.specs.Finding.{clause_number, clause_meant, first_of_group, LeafAt, SortedAs};
 ghost use Rattle.plan.specs.Plans.{draft_of, means};
 
 use crate::plan::Plan;
-use crate::rows::{Bin, Clause, Span, Value};
+use crate::rows::{Bin, Clause, Value};
+use crate::values::lists;
 
-fn lists_code(values: &[Value], span: Span, code: u16) -> bool
-    ensures { result ≡ lists code (map code_of (rows_of span values.now)) }
+// The place of the first of the clauses that lists the value.
+fn first_listing(clauses: &[Clause], values: &[Value], value: Value) -> Option<usize>
+    ensures { result ≡ position (λ c. lists value.code (map code_of (rows_of c.values values.now))) clauses.now }
 {
-    let mut i = span.from;
-    while i < span.to && i < values.len() {
-        if values[i].code == code {
-            return true;
-        }
-        i += 1;
-    }
-    false
+    clauses
+        .iter()
+        .position(|c| lists(c.values.of(values), value))
 }
 
-// The number of the first clause of the span that lists the value.
-fn seek_clause(clauses: &[Clause], span: Span, values: &[Value], code: u16) -> Option<usize>
-    ensures { result ≡ seek_clause values.now code span.from (rows_of span clauses.now) }
-{
-    let mut k = span.from;
-    while k < span.to && k < clauses.len() {
-        if lists_code(values, clauses[k].values, code) {
-            return Some(k);
-        }
-        k += 1;
-    }
-    None
-}
-
-// The number of the first bin of the group that is met going up from a bin.
-fn number_up(bins: &[Bin], group: usize, from: usize) -> Option<u32>
-    ensures { result ≡ number_up (map bin_of bins.now) group (length bins.now) from }
+// The first bin of the group that is met going up from a bin. No way up is longer than the table.
+pub fn first_of_group(bins: &[Bin], group: usize, from: usize) -> Option<Bin>
+    ensures { result ≡ first_of_group bins.now group (length bins.now) from }
 {
     let mut at = from;
-    let mut steps = bins.len();
-    while steps > 0 {
-        if at >= bins.len() {
-            return None;
+    for _ in 0..bins.len() {
+        let bin = bins.get(at).copied()?;
+        if bin.group == group {
+            return Some(bin);
         }
-        let b = bins[at];
-        if b.group == group {
-            return Some(b.number);
-        }
-        match b.parent {
-            Some(p) => at = p,
-            None => return None,
-        }
-        steps -= 1;
+        at = bin.parent?;
     }
     None
 }
 
 impl Plan {
-    // The clause of the item that lists the value of this code.
-    pub fn clause_for(&self, item: usize, code: u16) -> Option<usize>
-        ensures number { result ≡ clause_number (draft_of self.now) item code }
-        ensures meant { clause_meant (draft_of self.now) result ≡ clause_for code (clauses_at (means self.now) item) }
+    // The clause of the item that lists the value.
+    pub fn clause_for(&self, item: usize, value: Value) -> Option<usize>
+        ensures number { result ≡ clause_number (draft_of self.now) item value.code }
+        ensures meant { clause_meant (draft_of self.now) result ≡ clause_for value.code (clauses_at (means self.now) item) }
     {
-        match self.item(item) {
-            Some(it) => seek_clause(
-                self.tables.clauses.as_slice(),
-                it.clauses,
-                self.tables.values.as_slice(),
-                code,
-            ),
-            None => None,
-        }
+        let span = self.item(item)?.clauses;
+        let clauses = span.of(self.tables.clauses.as_slice());
+        let k = first_listing(clauses, self.tables.values.as_slice(), value)?;
+        Some(span.from + k)
     }
 
     // The sort number of a bin: that of the first bin of the sort group met going up from it. Every leaf bin has one.
@@ -82,9 +51,7 @@ impl Plan {
         ensures first { (n : ℕ) → result ≡ Some n → SortedAs (means self.now) leaf n }
         ensures sorted { LeafAt (means self.now) leaf → is_some result ≡ true }
     {
-        match self.sort_group() {
-            Some(g) => number_up(self.tables.bins.as_slice(), g, leaf),
-            None => None,
-        }
+        let group = self.sort_group()?;
+        first_of_group(self.tables.bins.as_slice(), group, leaf).map(|bin| bin.number)
     }
 }

@@ -12,16 +12,6 @@ use crate::parts::part_of;
 use crate::plan::Plan;
 use crate::rows::{Bin, Clause, Counter, Flow, Group, Item, Name, Test, Value};
 
-// The row of this number, where there is one.
-fn row<T: Copy>(rows: &[T], i: usize) -> Option<T>
-    ensures { result ≡ slice_get rows.now i }
-{
-    if i >= rows.len() {
-        return None;
-    }
-    Some(rows[i])
-}
-
 impl Plan {
     // Either nothing is in the plan, or it keeps every rule.
     pub fn is_empty(&self) -> bool
@@ -70,35 +60,32 @@ impl Plan {
     pub fn group(&self, i: usize) -> Option<Group>
         ensures { result ≡ slice_get (draft_of self.now).groups i }
     {
-        row(self.tables.groups.as_slice(), i)
+        self.tables.groups.get(i)
     }
 
     pub fn counter(&self, i: usize) -> Option<Counter>
         ensures { result ≡ slice_get (draft_of self.now).counters i }
     {
-        row(self.tables.counters.as_slice(), i)
+        self.tables.counters.get(i)
     }
 
     pub fn test(&self, i: usize) -> Option<Test>
         ensures { result ≡ slice_get (draft_of self.now).tests i }
     {
-        row(self.tables.tests.as_slice(), i)
+        self.tables.tests.get(i)
     }
 
     pub fn bin(&self, i: usize) -> Option<Bin>
         ensures held { result ≡ slice_get (draft_of self.now).bins i }
         ensures meant { option_map bin_of result ≡ slice_get (means self.now).bins i }
     {
-        row(self.tables.bins.as_slice(), i)
+        self.tables.bins.get(i)
     }
 
     pub fn parent(&self, i: usize) -> Option<usize>
         ensures { result ≡ parent_in (slice_get (means self.now).bins i) }
     {
-        match self.bin(i) {
-            Some(b) => b.parent,
-            None => None,
-        }
+        self.bin(i)?.parent
     }
 
     pub fn flow(&self, i: usize) -> Option<Flow>
@@ -106,33 +93,33 @@ impl Plan {
         ensures meant { option_map flow_of result ≡ slice_get (means self.now).flows i }
         ensures depth { (f : Flow) → result ≡ Some f → FlowDepth (means self.now) i (flow_of f) f.depth }
     {
-        row(self.tables.flows.as_slice(), i)
+        self.tables.flows.get(i)
     }
 
     pub fn item(&self, i: usize) -> Option<Item>
         ensures held { result ≡ slice_get (draft_of self.now).items i }
         ensures meant { option_map (item_of (draft_of self.now)) result ≡ slice_get (means self.now).items i }
     {
-        row(self.tables.items.as_slice(), i)
+        self.tables.items.get(i)
     }
 
     pub fn clause(&self, i: usize) -> Option<Clause>
         ensures { result ≡ slice_get (draft_of self.now).clauses i }
     {
-        row(self.tables.clauses.as_slice(), i)
+        self.tables.clauses.get(i)
     }
 
     pub fn value(&self, i: usize) -> Option<Value>
         ensures { result ≡ slice_get (draft_of self.now).values i }
     {
-        row(self.tables.values.as_slice(), i)
+        self.tables.values.get(i)
     }
 
     // The counter that is named there.
     pub fn mention(&self, i: usize) -> Option<usize>
         ensures { result ≡ slice_get (draft_of self.now).mentions i }
     {
-        row(self.tables.mentions.as_slice(), i)
+        self.tables.mentions.get(i)
     }
 
     // The main flow, which is a flow of the plan; the empty plan has none.

@@ -3,10 +3,8 @@
 ghost use Rattle.std.specs.Prelude.{◌≡◌, IfOk};
 ghost use Rattle.plan.specs.Drafts.{drafted, blank};
 
-use crate::tables::{
-    MOST_BINS, MOST_CLAUSES, MOST_COUNTERS, MOST_FLOWS, MOST_GROUPS, MOST_ITEMS, MOST_MENTIONS,
-    MOST_TESTS, MOST_VALUES, Tables,
-};
+use crate::table::Table;
+use crate::tables::Tables;
 use std::alloc::{AllocError, Global};
 
 impl Tables {
@@ -14,25 +12,16 @@ impl Tables {
     pub fn reserved(heap: Global) -> Result<Tables, AllocError>
         ensures { IfOk result (λ t. drafted t ≡ blank) }
     {
-        let groups = Vec::with_capacity(heap, MOST_GROUPS)?;
-        let bins = Vec::with_capacity(heap, MOST_BINS)?;
-        let counters = Vec::with_capacity(heap, MOST_COUNTERS)?;
-        let tests = Vec::with_capacity(heap, MOST_TESTS)?;
-        let flows = Vec::with_capacity(heap, MOST_FLOWS)?;
-        let items = Vec::with_capacity(heap, MOST_ITEMS)?;
-        let clauses = Vec::with_capacity(heap, MOST_CLAUSES)?;
-        let values = Vec::with_capacity(heap, MOST_VALUES)?;
-        let mentions = Vec::with_capacity(heap, MOST_MENTIONS)?;
         Ok(Tables {
-            groups,
-            bins,
-            counters,
-            tests,
-            flows,
-            items,
-            clauses,
-            values,
-            mentions,
+            groups: Table::reserved(heap)?,
+            bins: Table::reserved(heap)?,
+            counters: Table::reserved(heap)?,
+            tests: Table::reserved(heap)?,
+            flows: Table::reserved(heap)?,
+            items: Table::reserved(heap)?,
+            clauses: Table::reserved(heap)?,
+            values: Table::reserved(heap)?,
+            mentions: Table::reserved(heap)?,
             sort_group: 0,
             main_flow: 0,
         })

@@ -8,9 +8,9 @@ use Rattle.plan.proofs.plan.Plan.flow.Goals as goal
 pub returns : goal.returns
 returns c =
     let p = c.args.self.now in
-    let held : c.row.result ≡ slice_get (draft_of p).flows c.args.i = search rules in
+    let held : c.get.result ≡ slice_get (draft_of p).flows c.args.i = search rules in
     record {
       held = held;
-      meant = flow_meant (draft_of p) c.args.i c.row.result held;
+      meant = flow_meant (draft_of p) c.args.i c.get.result held;
       depth = λ f e. flow_depth (draft_of p) p.keeps p.depths c.args.i f (sym e ∙ held);
     }

@@ -7,5 +7,5 @@ use Rattle.plan.proofs.plan.Plan.item.Goals as goal
 pub returns : goal.returns
 returns c =
     let d = draft_of c.args.self.now in
-    let held : c.row.result ≡ slice_get d.items c.args.i = search rules in
-    record { held = held; meant = item_meant_lem d c.args.i c.row.result held }
+    let held : c.get.result ≡ slice_get d.items c.args.i = search rules in
+    record { held = held; meant = item_meant_lem d c.args.i c.get.result held }
