@@ -1,12 +1,10 @@
 -- The counters, and a test, both ways.
-use Rattle.std.proofs.Common.{◌≡◌, ℕ, ◌+◌, ◌<◌, ◌≤◌, Bool, true, false, cond, leb, List, [], ◌∷◌, ◌++◌, map, length, is_some, Ok, sym, refl, ap, ◌∙◌, subst, append_assoc, append-nil, arith, length-append}
+use Rattle.std.proofs.Common.{◌≡◌, ℕ, ◌+◌, ◌<◌, ◌≤◌, Bool, true, false, cond, leb, List, [], ◌∷◌, ◌++◌, map, length, is_some, Some, None, Ok, Option, sym, refl, ap, ◌∙◌, subst, append_assoc, append-nil, arith, length-append}
 use Rattle.std.proofs.lemmas.List.{map_push, map-append}
 use Rattle.std.proofs.lemmas.Bool.{lt-leb, or_from}
 use Rattle.text_bytes.specs.declared.kinds.Mark.TheVariants as mk
 use Rattle.tokens.specs.Terminals.{Terminal, Tokens}
 use Rattle.tokens.specs.Terminals as t
-use Rattle.grammar.specs.declared.readers.Setting.{Setting}
-use Rattle.grammar.specs.declared.readers.Setting.TheVariants.{Whole, Value}
 use Rattle.grammar.specs.declared.readers.ValueStart.{ValueStart}
 use Rattle.grammar.specs.declared.readers.ValueStart.TheVariants.{Minus, Digits}
 use Rattle.grammar.specs.declared.symbols.Found.{Found}
@@ -25,13 +23,16 @@ use Rattle.refusals.specs.declared.fault.RuleFault.TheVariants.{DeclaredBefore, 
 use Rattle.refusals.specs.Steps.{allow}
 use Rattle.refusals.proofs.Passing.{accepted, parse_passed, then_passed, refuse_passed, allow_passed}
 use Rattle.refusals.proofs.Spelled.{NamesAt, name_at}
-use Rattle.declarations.specs.Counters.{another_in, counter_turn, counters_in}
-use Rattle.declarations.specs.Tests.{name_known, test_name_in, setting_on, setting_in, setter_turn, setters_in, test_in}
+use Rattle.declarations.specs.Counters.{counter_in, counter_turn, counters_in}
+use Rattle.productions.specs.Naming.{runnable_in}
+use Rattle.productions.proofs.Leaving.{entered}
+use Rattle.refusals.specs.Shapes.{another_in}
+use Rattle.declarations.specs.Tests.{test_name_in, setting_on, setting_in, setter_turn, setters_in, test_in}
 use Rattle.language.specs.Trees.{Word, Several, each, SettingTree, to_name, to_string, to_value, SetterTree, TestTree}
 use Rattle.language.specs.Grammar.{list_tokens, row_tokens, name_tokens, setting_tokens, setter_tokens}
 use Rattle.language.specs.Standing.{declared, names_in}
 use Rattle.language.specs.Obeying.{Starts, here, next, Every, SettingFits}
-use Rattle.language.proofs.Taking.{terminal, symbol_same, symbol_taken, name_taken, expect_taken, setting_taken, SettingToken, NameOrClose, name_or_close_taken, start_token, start_place, front, join, split, names_behind, undeclared_found, next_not_found}
+use Rattle.language.proofs.Taking.{terminal, symbol_same, symbol_taken, name_taken, another_taken, expect_taken, setting_taken, SettingToken, NameOrClose, name_or_close_taken, start_token, start_place, front, join, split, names_behind, undeclared_found, next_not_found}
 use Rattle.language.proofs.Along.{every_then}
 use Rattle.language.proofs.Onward.{expect_one, parse_on, then_on, refuse_on}
 use Rattle.language.proofs.Lists.{OneRead, list_sound, list_complete, after, Turned, elements_sound, elements_complete}
@@ -77,19 +78,7 @@ pub record CountersStand (text : List ℕ) (d e : Draft) (ns : List Word) : Type
 abbrev pub counters_rest : Several Word → List Terminal
 counters_rest names = t.mark mk.OpenBrace ∷ (list_tokens name_tokens names ++ t.mark mk.CloseBrace ∷ [])
 
-another_sound : (ts : Tokens) (more : Bool) (us : Tokens) → another_in ts ≡ Ok (more, us) → (p : ℕ) × (ts ≡ t.token (t.mark (cond more mk.Comma mk.CloseBrace)) p us)
-another_sound ts more us h =
-    let f = parse_passed (symbol_in ts) h in
-    by f.v f.us (same_symbol f.v.symbol (Mark mk.Comma)) refl (symbol_taken ts f.v f.us f.is) f.goes
-  where
-    the : (f : Found) (vs : Tokens) (b : Bool) → same_symbol f.symbol (Mark (cond b mk.Comma mk.CloseBrace)) ≡ true → ts ≡ t.token (terminal f.symbol) f.place vs → (b ≡ more) × (vs ≡ us) → (p : ℕ) × (ts ≡ t.token (t.mark (cond more mk.Comma mk.CloseBrace)) p us)
-    the f vs b same is made = (f.place, is ∙ (ap (λ x. t.token (terminal x) f.place vs) (symbol_same f.symbol (Mark (cond b mk.Comma mk.CloseBrace)) same) ∙ (ap (λ x. t.token (t.mark (cond x mk.Comma mk.CloseBrace)) f.place vs) made.0 ∙ ap (t.token (t.mark (cond more mk.Comma mk.CloseBrace)) f.place) made.1)))
-
-    by : (f : Found) (vs : Tokens) (b : Bool) → same_symbol f.symbol (Mark mk.Comma) ≡ b → ts ≡ t.token (terminal f.symbol) f.place vs → cond b (Ok (true, vs)) (allow (same_symbol f.symbol (Mark mk.CloseBrace)) f.place (Ok (false, vs))) ≡ Ok (more, us) → (p : ℕ) × (ts ≡ t.token (t.mark (cond more mk.Comma mk.CloseBrace)) p us)
-    by f vs true same is h = the f vs true same is (accepted h)
-    by f vs false other is h = let ok = allow_passed (same_symbol f.symbol (Mark mk.CloseBrace)) f.place _ h in the f vs false ok.0 is (accepted ok.1)
-
-another_read : (more : Bool) (ts us : Tokens) → Starts us ts (t.mark (cond more mk.Comma mk.CloseBrace) ∷ []) → another_in ts ≡ Ok (more, us)
+another_read : (more : Bool) (ts us : Tokens) → Starts us ts (t.mark (cond more mk.Comma mk.CloseBrace) ∷ []) → another_in mk.CloseBrace ts ≡ Ok (more, us)
 another_read true ts us (next here) = refl
 another_read false ts us (next here) = refl
 
@@ -99,19 +88,19 @@ module _ (text : List ℕ) (d : Draft) where
 
   counter_sound : (more : Bool) (s : Draft) (ts : Tokens) (e : Draft) (us : Tokens) (done : List Word) → counter_turn text s ts ≡ Ok ((more, e), us) → Counted s ts done → OneRead (counter_turn text) name_tokens mk.CloseBrace Counted more ts e us done
   counter_sound more s ts e us done h c =
-      let n = parse_passed (name_in ts) h in
+      let one = entered mk.CloseBrace (counter_in text) s ts more e us h in
+      let n = parse_passed (name_in ts) one.read in
       let new = refuse_passed (is_some (found (λ k. k.name) text s.counters n.v.0)) (DeclaredBefore n.v.1) _ n.goes in
       let room = refuse_passed (leb 32 (length s.counters)) (TableFull n.v.1) _ new.1 in
-      let another = then_passed (another_in n.us) room.1 in
-      let made = accepted another.goes in
+      let made = accepted room.1 in
       let row : Counter = record { name = record { place = n.v.1; len = length n.v.0 } } in
       let spelled = name_at text ts n.v n.us n.is c.1 in
       let name = name_taken ts n.v n.us n.is in
-      let mark = another_sound n.us another.v another.us another.is in
-      let starts : Starts us ts (t.name n.v.0 ∷ t.mark (cond more mk.Comma mk.CloseBrace) ∷ []) = front name (subst (λ z. Starts z n.us (t.mark (cond more mk.Comma mk.CloseBrace) ∷ [])) made.1 (subst (λ (b : Bool × Draft). Starts another.us n.us (t.mark (cond b.0 mk.Comma mk.CloseBrace) ∷ [])) made.0 (front mark.1 here))) in
+      let mark = another_taken mk.CloseBrace one.behind more us one.next in
+      let starts : Starts us ts (t.name n.v.0 ∷ t.mark (cond more mk.Comma mk.CloseBrace) ∷ []) = front name (subst (λ z. Starts us z (t.mark (cond more mk.Comma mk.CloseBrace) ∷ [])) (sym made.1) (front mark.1 here)) in
       let stands : CountersStand text d e (done ++ n.v.0 ∷ []) = record {
         rows = c.0.rows ++ row ∷ [];
-        is = sym (ap (λ (b : Bool × Draft). b.1) made.0) ∙ counting_push c.0.rows row d s c.0.is;
+        is = sym made.0 ∙ counting_push c.0.rows row d s c.0.is;
         names = map_push (λ k. spelt text k.name) c.0.rows row ∙ (ap (λ l. l ++ spelt text row.name ∷ []) c.0.names ∙ ap (λ w. done ++ w ∷ []) spelled);
       } in
       record { x = n.v.0; starts = starts; kept = (stands, names_behind text starts c.1) }
@@ -143,7 +132,9 @@ module _ (text : List ℕ) (d : Draft) where
       let new = next_not_found (λ k. k.name) text s.counters n ns q.once in
       let room = q.room in
       let full : leb 32 (length s.counters) ≡ false = lt-leb 32 (length s.counters) (omega arith) in
-      let goes : counter_turn text s ts ≡ Ok ((more, with_counter row s), us) = parse_on (name_in ts) _ (ap name_in r.is) (refuse_on (is_some (found (λ k. k.name) text s.counters n)) _ _ new (refuse_on (leb 32 (length s.counters)) _ _ full (then_on (another_in r.behind) _ (another_read more r.behind us r.starts) refl))) in (
+      let goes : counter_turn text s ts ≡ Ok ((more, with_counter row s), us) =
+          then_on (counter_in text s ts) _ (parse_on (name_in ts) _ (ap name_in r.is) (refuse_on (is_some (found (λ k. k.name) text s.counters n)) _ _ new (refuse_on (leb 32 (length s.counters)) _ _ full refl)))
+          (parse_on (another_in mk.CloseBrace r.behind) _ (another_read more r.behind us r.starts) refl) in (
         with_counter row s,
         goes,
         record {
@@ -174,14 +165,14 @@ setting_sound ts v us h =
     let k = setting_taken ts begun.v begun.us begun.is in
     by begun.v begun.us k.x k.p k.is k.holds begun.goes
   where
-    by : (y : Setting) (vs : Tokens) (x : Terminal) (p : ℕ) → ts ≡ t.token x p vs → SettingToken y x → setting_on y vs ≡ Ok (v, us) → (s : SettingTree) × Starts us ts (setting_tokens s) × SettingFits s
-    by Whole vs x p is holds h = (holds.0, subst (Starts us ts) (sym holds.1) (front is (subst (λ z. Starts us z []) (sym (accepted h).1) here)), holds.2)
-    by (Value start) vs x p is holds h =
+    by : (y : Option ValueStart) (vs : Tokens) (x : Terminal) (p : ℕ) → ts ≡ t.token x p vs → SettingToken y x → setting_on y vs ≡ Ok (v, us) → (s : SettingTree) × Starts us ts (setting_tokens s) × SettingFits s
+    by None vs x p is holds h = (holds.0, subst (Starts us ts) (sym holds.1) (front is (subst (λ z. Starts us z []) (sym (accepted h).1) here)), holds.2)
+    by (Some start) vs x p is holds h =
         let value = then_passed (value_from start vs) h in
         let r = value_from_sound start ts vs value.v value.us (is ∙ ap (λ y. t.token y p vs) holds) value.is in
         (to_value r.tree, subst (λ z. Starts z ts (setting_tokens (to_value r.tree))) (accepted value.goes).1 r.starts, r.fits)
 
-setting_begun_lem : (start : ValueStart) (ts : Tokens) → setting_begun (t.token (start_token start) (start_place start) ts) ≡ Ok (Value start, ts)
+setting_begun_lem : (start : ValueStart) (ts : Tokens) → setting_begun (t.token (start_token start) (start_place start) ts) ≡ Ok (Some start, ts)
 setting_begun_lem (Minus p) ts = refl
 setting_begun_lem (Digits n) ts = refl
 
@@ -283,7 +274,7 @@ module _ (text : List ℕ) (place : ℕ) (d : Draft) where
       let name = then_passed (test_name_in text d ts) room.1 in
       let class = parse_passed (name_in ts) name.is in
       let n = parse_passed (name_in class.us) class.goes in
-      let new = refuse_passed (name_known text d.tests d.flows n.v.0) (DeclaredBefore n.v.1) _ n.goes in
+      let new = refuse_passed (runnable_in text d.tests d.flows n.v.0) (DeclaredBefore n.v.1) _ n.goes in
       let named = accepted new.1 in
       let setters = then_passed (setters_in name.us) name.goes in
       let made = accepted setters.goes in
@@ -311,6 +302,6 @@ module _ (text : List ℕ) (place : ℕ) (d : Draft) where
       let row : Test = record { name = name } in
       let spelled : spelt text name ≡ x.name = (subst (NamesAt text) b.is (subst (NamesAt text) a.is names).1).0 in
       let full : leb 128 (length d.tests) ≡ false = lt-leb 128 (length d.tests) room in
-      let new : name_known text d.tests d.flows x.name ≡ false = or_from _ _ (ap is_some (undeclared_found (λ r. r.name) text x.name d.tests no_test)) (ap is_some (undeclared_found (λ r. r.name) text x.name d.flows no_flow)) in
-      let named : test_name_in text d ts ≡ Ok (name, b.behind) = parse_on (name_in ts) _ (ap name_in a.is) (parse_on (name_in a.behind) _ (ap name_in b.is) (refuse_on (name_known text d.tests d.flows x.name) _ _ new refl)) in
+      let new : runnable_in text d.tests d.flows x.name ≡ false = or_from _ _ (ap is_some (undeclared_found (λ r. r.name) text x.name d.tests no_test)) (ap is_some (undeclared_found (λ r. r.name) text x.name d.flows no_flow)) in
+      let named : test_name_in text d ts ≡ Ok (name, b.behind) = parse_on (name_in ts) _ (ap name_in a.is) (parse_on (name_in a.behind) _ (ap name_in b.is) (refuse_on (runnable_in text d.tests d.flows x.name) _ _ new refl)) in
       (with_test row d, refuse_on (leb 128 (length d.tests)) _ _ full (then_on (test_name_in text d ts) _ named (then_on (setters_in b.behind) _ (setters_complete x.setters b.behind us b.starts fits) refl)), record { row = row; is = refl; named = spelled })

@@ -9,6 +9,7 @@ use Rattle.text_bytes.specs.Bytes.{same_mark}
 use Rattle.tokens.specs.Terminals.{Terminal, Tokens, count, mark}
 use Rattle.grammar.specs.Readers.{Parsed}
 use Rattle.refusals.specs.Shapes.{another_in}
+use Rattle.productions.specs.Following.{list_turn}
 use Rattle.refusals.specs.Steps.{Loaded, parse, then, turns, many}
 use Rattle.refusals.proofs.Passing.{accepted, parse_passed, then_passed}
 use Rattle.refusals.proofs.Repeating.{Going, going, goes_on, ends}
@@ -148,16 +149,10 @@ module _ {S X : Type 0} (turn : S → Tokens → Loaded (Bool × S)) (body : X �
 
 -- the same where one part of the turn reads x, and the other the mark behind it
 module _ {S X : Type 0} (one : S → Tokens → Loaded S) (body : X → List Terminal) (last : Mark) where
-  abbrev pub list_turn : S → Tokens → Loaded (Bool × S)
-  list_turn s ts =
-      then (one s ts) λ t ts.
-      parse (another_in last ts) λ more ts.
-      Ok ((more, t), ts)
-
-  pub listed_sound : (P : S → List X → Type 0) → ((s : S) (ts : Tokens) (t : S) (us : Tokens) (done : List X) → one s ts ≡ Ok (t, us) → P s done → (x : X) × Starts us ts (body x) × P t (done ++ x ∷ [])) → (s : S) (ts : Tokens) (t : S) (us : Tokens) → many list_turn s ts ≡ Ok (t, us) → P s [] → ListRead list_turn body last (λ s _ xs. P s xs) ts t us
-  listed_sound P step s ts t us e p = list_sound list_turn body last (λ s _ xs. P s xs) turned s ts t us e p
+  pub listed_sound : (P : S → List X → Type 0) → ((s : S) (ts : Tokens) (t : S) (us : Tokens) (done : List X) → one s ts ≡ Ok (t, us) → P s done → (x : X) × Starts us ts (body x) × P t (done ++ x ∷ [])) → (s : S) (ts : Tokens) (t : S) (us : Tokens) → many (list_turn last one) s ts ≡ Ok (t, us) → P s [] → ListRead (list_turn last one) body last (λ s _ xs. P s xs) ts t us
+  listed_sound P step s ts t us e p = list_sound (list_turn last one) body last (λ s _ xs. P s xs) turned s ts t us e p
     where
-      turned : (more : Bool) (s : S) (ts : Tokens) (t : S) (us : Tokens) (done : List X) → list_turn s ts ≡ Ok ((more, t), us) → P s done → OneRead list_turn body last (λ s _ xs. P s xs) more ts t us done
+      turned : (more : Bool) (s : S) (ts : Tokens) (t : S) (us : Tokens) (done : List X) → (list_turn last one) s ts ≡ Ok ((more, t), us) → P s done → OneRead (list_turn last one) body last (λ s _ xs. P s xs) more ts t us done
       turned more s ts t us done h p =
           let o = then_passed (one s ts) h in
           let a = parse_passed (another_in last o.us) o.goes in
@@ -168,14 +163,14 @@ module _ {S X : Type 0} (one : S → Tokens → Loaded S) (body : X → List Ter
           let w : Starts us o.us (mark (cond more mk.Comma last) ∷ []) = subst (λ (b : Bool × S). Starts us o.us (mark (cond b.0 mk.Comma last) ∷ [])) made.0 m in
           record { x = r.0; starts = join r.1 w; kept = subst (λ (b : Bool × S). P b.1 (done ++ r.0 ∷ [])) made.0 r.2 }
 
-  pub listed_complete : same_mark last mk.Comma ≡ false → (Q : S → List X → Type 0) → ((s : S) (ts us : Tokens) (x : X) (xs : List X) → Starts us ts (body x) → Q s (x ∷ xs) → (t : S) × (one s ts ≡ Ok (t, us)) × Q t xs) → (xs : Several X) (s : S) (ts us : Tokens) → Starts us ts (list_tokens body xs ++ mark last ∷ []) → Q s (each xs) → (t : S) × (many list_turn s ts ≡ Ok (t, us)) × Q t []
-  listed_complete apart Q step xs s ts us st q = list_complete list_turn body last (λ s _ xs. Q s xs) turned xs s ts us st q
+  pub listed_complete : same_mark last mk.Comma ≡ false → (Q : S → List X → Type 0) → ((s : S) (ts us : Tokens) (x : X) (xs : List X) → Starts us ts (body x) → Q s (x ∷ xs) → (t : S) × (one s ts ≡ Ok (t, us)) × Q t xs) → (xs : Several X) (s : S) (ts us : Tokens) → Starts us ts (list_tokens body xs ++ mark last ∷ []) → Q s (each xs) → (t : S) × (many (list_turn last one) s ts ≡ Ok (t, us)) × Q t []
+  listed_complete apart Q step xs s ts us st q = list_complete (list_turn last one) body last (λ s _ xs. Q s xs) turned xs s ts us st q
     where
       another_read : (more : Bool) (ts us : Tokens) → Starts us ts (mark (cond more mk.Comma last) ∷ []) → another_in last ts ≡ Ok (more, us)
       another_read true ts us (next here) = refl
       another_read false ts us (next here) = cond-false (same_mark last mk.Comma) _ _ apart ∙ cond-true (same_mark last last) _ _ (eq-eqb _ _ refl)
 
-      turned : (more : Bool) (s : S) (ts us : Tokens) (x : X) (xs : List X) → Starts us ts (body x ++ mark (cond more mk.Comma last) ∷ []) → Q s (x ∷ xs) → (t : S) × (list_turn s ts ≡ Ok ((more, t), us)) × Q t xs
+      turned : (more : Bool) (s : S) (ts us : Tokens) (x : X) (xs : List X) → Starts us ts (body x ++ mark (cond more mk.Comma last) ∷ []) → Q s (x ∷ xs) → (t : S) × ((list_turn last one) s ts ≡ Ok ((more, t), us)) × Q t xs
       turned more s ts us x xs st q =
           let r = split ts (body x) (mark (cond more mk.Comma last) ∷ []) st in
           let o = step s ts r.us x xs r.before q in

@@ -15,8 +15,6 @@ use Rattle.tokens.specs.Terminals as t
 use Rattle.grammar.specs.declared.fault.GrammarFault.{GrammarFault}
 use Rattle.grammar.specs.declared.fault.GrammarFault.TheVariants.{NotAllowed}
 use Rattle.grammar.specs.declared.readers.Numeral.{Numeral}
-use Rattle.grammar.specs.declared.readers.Setting.{Setting}
-use Rattle.grammar.specs.declared.readers.Setting.TheVariants.{Whole, Value}
 use Rattle.grammar.specs.declared.readers.ValueStart.{ValueStart}
 use Rattle.grammar.specs.declared.readers.ValueStart.TheVariants.{Minus, Digits}
 use Rattle.grammar.specs.declared.symbols.Found.{Found}
@@ -187,17 +185,17 @@ start_is p (t.string bs) {y} e = never_some y e
 start_is p (t.mark m) e = let s = the_mark_is mk.Minus (Minus p) m e in (ap t.mark s.0 ∙ ap start_token s.1, ap start_place s.1)
 
 -- the token of a setting: a name or a string, which is all of it, or the start of a value
-abbrev pub SettingToken : Setting → Terminal → Type 0
-SettingToken Whole x = (s : SettingTree) × (setting_tokens s ≡ x ∷ []) × SettingFits s
-SettingToken (Value v) x = x ≡ start_token v
+abbrev pub SettingToken : Option ValueStart → Terminal → Type 0
+SettingToken None x = (s : SettingTree) × (setting_tokens s ≡ x ∷ []) × SettingFits s
+SettingToken (Some v) x = x ≡ start_token v
 
-setting_is : (p : ℕ) (x : Terminal) {y : Setting} → a_setting p x ≡ Some y → SettingToken y x
+setting_is : (p : ℕ) (x : Terminal) {y : Option ValueStart} → a_setting p x ≡ Some y → SettingToken y x
 setting_is p (t.name bs) e = subst (λ y. SettingToken y (t.name bs)) (the_same e) (to_name bs, refl, tt)
 setting_is p (t.keyword k) {y} e = never_some y e
 setting_is p (t.number n) e = subst (λ y. SettingToken y (t.number n)) (the_same e) refl
 setting_is p (t.decimal bs) {y} e = never_some y e
 setting_is p (t.string bs) e = subst (λ y. SettingToken y (t.string bs)) (the_same e) (to_string bs, refl, tt)
-setting_is p (t.mark m) e = let s = the_mark_is mk.Minus (Value (Minus p)) m e in subst (λ y. SettingToken y (t.mark m)) s.1 (ap t.mark s.0)
+setting_is p (t.mark m) e = let s = the_mark_is mk.Minus (Some (Minus p)) m e in subst (λ y. SettingToken y (t.mark m)) s.1 (ap t.mark s.0)
 
 abbrev pub NameOrClose : Bool → Terminal → Type 0
 NameOrClose true x = (n : Word) × (x ≡ t.name n)
@@ -272,13 +270,13 @@ start_taken ts v us h =
     let s = start_is a.p a.x a.holds in
     a.is ∙ (ap (λ x. t.token x a.p us) s.0 ∙ (ap (λ p. t.token (start_token a.y) p us) s.1 ∙ ap (λ w. t.token (start_token w) (start_place w) us) a.gives))
 
-pub record SettingTaken (ts : Tokens) (v : Setting) (us : Tokens) : Type 0 where
+pub record SettingTaken (ts : Tokens) (v : Option ValueStart) (us : Tokens) : Type 0 where
   pub x : Terminal
   pub p : ℕ
   pub is : ts ≡ t.token x p us
   pub holds : SettingToken v x
 
-pub setting_taken : (ts : Tokens) (v : Setting) (us : Tokens) → setting_in ts ≡ Ok (v, us) → SettingTaken ts v us
+pub setting_taken : (ts : Tokens) (v : Option ValueStart) (us : Tokens) → setting_in ts ≡ Ok (v, us) → SettingTaken ts v us
 setting_taken ts v us h =
     let a = placed_took a_setting ts v us h in
     record { x = a.x; p = a.p; is = a.is; holds = subst (λ y. SettingToken y a.x) a.gives (setting_is a.p a.x a.holds) }
