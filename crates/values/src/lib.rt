@@ -24,32 +24,18 @@ pub struct ReadValue {
 pub fn value_of(negative: bool, n: u32) -> Option<Value>
     ensures { result ≡ coded negative n }
 {
-    if negative {
-        if n > 32768 {
-            return None;
-        }
-        return Some(Value {
-            code: (32768 - n) as u16,
-        });
-    }
-    if n > 32767 {
-        return None;
-    }
-    Some(Value {
-        code: (32768 + n) as u16,
-    })
+    let n = i64::from(n);
+    Value::try_from(if negative { -n } else { n }).ok()
 }
 
 fn in_range(negative: bool, n: Numeral) -> Result<ReadValue, LoadFault>
     ensures { result ≡ ranged negative n }
 {
-    match value_of(negative, n.value) {
-        Some(value) => Ok(ReadValue {
-            value,
-            place: n.place,
-        }),
-        None => Err(LoadFault::Rule(RuleFault::OutOfRange(n.place))),
-    }
+    let value = value_of(negative, n.value).ok_or(LoadFault::Rule(RuleFault::OutOfRange(n.place)))?;
+    Ok(ReadValue {
+        value,
+        place: n.place,
+    })
 }
 
 // The value that has begun so.
