@@ -1,8 +1,9 @@
 -- What a look-up by name tells.
-use Rattle.std.proofs.Common.{◌≡◌, ℕ, zero, suc, ◌+◌, ◌<◌, Bool, true, false, cond, List, [], ◌∷◌, map, length, is_some, Some, None, Option, sym, refl, arith}
+use Rattle.std.proofs.Common.{◌≡◌, ℕ, zero, suc, ◌+◌, ◌<◌, Bool, true, false, cond, List, [], ◌∷◌, map, length, is_some, Some, None, Option, sym, refl, ap, ◌∙◌, arith}
 use Rattle.std.proofs.lemmas.Slice.Eq.{bytes_eq-Decides}
 use Rattle.std.proofs.lemmas.Bool.{true≢false, both_ways}
-use Rattle.std.specs.List.{slice_get}
+use Rattle.std.proofs.lemmas.Iterator.Adapters.{position_from-zero}
+use Rattle.std.specs.List.{position, position_from, slice_get}
 use Rattle.plan.specs.declared.rows.Name.{Name}
 use Rattle.plan.specs.Rules.{spelt}
 use Rattle.plan.proofs.Added.{the_same}
@@ -10,6 +11,14 @@ use Rattle.plan.proofs.Spans.{never_some}
 use Rattle.names.specs.Names.{same_name, found_from, found}
 
 module _ {R : Type 0} (named : R → Name) (text word : List ℕ) where
+  -- a look-up counted from n on, and std's
+  at_place : (n : ℕ) (rows : List R) → position_from (λ r. same_name (spelt text (named r)) word) n rows ≡ found_from n named text rows word
+  at_place n [] = refl
+  at_place n (row ∷ rows) = ap (cond (same_name (spelt text (named row)) word) (Some n)) (at_place (n + 1) rows)
+
+  pub at_position : (rows : List R) → position (λ r. same_name (spelt text (named r)) word) rows ≡ found named text rows word
+  at_position rows = position_from-zero (λ r. same_name (spelt text (named r)) word) rows ∙ at_place 0 rows
+
   found_from_below : (n : ℕ) (rows : List R) (k : ℕ) → found_from n named text rows word ≡ Some k → k < n + length rows
   found_from_below n [] k e = let z : ◌≡◌ {A = ℕ} 0 1 = cc in absurd (omega arith)
   found_from_below n (row ∷ rows) k e = by (same_name (spelt text (named row)) word) e (found_from_below (n + 1) rows k)
