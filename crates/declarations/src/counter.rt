@@ -22,7 +22,7 @@ impl Entry for CounterName {
         if t.counters.len() >= MOST_COUNTERS {
             return Err(RuleFault::TableFull(word.place).into());
         }
-        t.add_counter(Counter { name });
+        t.counters.add(Counter { name });
         Ok(())
     }
 }

@@ -76,6 +76,6 @@ pub fn test<'a, 't>(desk: &mut Desk<'a, 't>, place: usize) -> Result<(), LoadFau
         return Err(RuleFault::DeclaredBefore(word.place).into());
     }
     setters(&mut desk.reader)?;
-    t.add_test(Test { name: named(word) });
+    t.tests.add(Test { name: named(word) });
     Ok(())
 }
