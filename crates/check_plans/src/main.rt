@@ -5,114 +5,69 @@
 
 #![tactic(auto)]
 
-mod listing;
-
-use complaints::Complaint;
-use listing::list_tokens;
+use complaints::{Accepted, Complaint};
+use grammar::GrammarFault;
 use load::Loader;
 use plan::Plan;
 use refusals::LoadFault;
 use std::process::ExitCode;
 use std::{env, fs, io};
+use token_words::print_tokens;
 
-// What is wanted of a file.
-#[derive(Clone, Copy)]
-enum Task {
-    Check,
-    ListTokens,
-}
-
-// What came of all files.
-#[derive(Clone, Copy)]
-enum Outcome {
-    Well,
-    Refused,
-}
-
-fn accepted(rt: &HostRuntime, path: &str, plan: &Plan) -> io::Result<()> {
-    let name = match std::str::from_utf8(plan.name(plan.title)) {
-        Ok(name) => name,
-        Err(_) => "",
-    };
-    let groups = plan.group_count();
-    let bins = plan.bin_count();
-    let counters = plan.counter_count();
-    let tests = plan.test_count();
-    let flows = plan.flow_count();
-    let items = plan.item_count();
-    println!(rt;
-        "{path}: accepted: {name}: {groups} groups, {bins} bins, {counters} counters, {tests} tests, {flows} flows, {items} items"
-    )
-}
-
-fn refused(rt: &HostRuntime, path: &str, text: &[u8], fault: LoadFault) -> io::Result<()> {
-    let complaint = Complaint::new(text, fault);
-    println!(rt; "{path}:{complaint}")
-}
-
-fn check_plan(rt: &HostRuntime, path: &str, text: &[u8]) -> anyhow::Result<Outcome> {
+// Says what an accepted plan holds.
+fn check_plan(rt: &HostRuntime, path: &str, text: &[u8]) -> anyhow::Result<Result<(), LoadFault>> {
     let mut loader = Loader::new(rt.alloc())?;
     let mut plan = Plan::empty(rt.alloc())?;
-    match loader.load(&mut plan, text) {
-        Ok(()) => {
-            accepted(rt, path, &plan)?;
-            Ok(Outcome::Well)
-        }
-        Err(fault) => {
-            refused(rt, path, text, fault)?;
-            Ok(Outcome::Refused)
-        }
+    let loaded = loader.load(&mut plan, text);
+    if loaded.is_ok() {
+        println!(rt; "{path}: {}", Accepted(&plan))?;
     }
+    Ok(loaded)
 }
 
-fn look_at(rt: &HostRuntime, path: &str, task: Task) -> anyhow::Result<Outcome> {
+fn list_tokens(rt: &HostRuntime, path: &str, text: &[u8]) -> io::Result<Result<(), LoadFault>> {
+    let listed = print_tokens(rt, path, text)?;
+    Ok(listed.map_err(|fault| LoadFault::Grammar(GrammarFault::Token(fault))))
+}
+
+// Whether the file could be read, and is a plan, or where its tokens are to be listed has well-formed ones.
+fn look_at(rt: &HostRuntime, path: &str, lists_tokens: bool) -> anyhow::Result<bool> {
     let text = match fs::read(rt, path) {
         Ok(text) => text,
         Err(e) => {
             eprintln!(rt; "{path}: cannot be read: {e}")?;
-            return Ok(Outcome::Refused);
+            return Ok(false);
         }
     };
-    match task {
-        Task::Check => check_plan(rt, path, text.as_slice()),
-        Task::ListTokens => {
-            match list_tokens(rt, path, text.as_slice())? {
-                None => Ok(Outcome::Well),
-                Some(fault) => {
-                    refused(rt, path, text.as_slice(), fault)?;
-                    Ok(Outcome::Refused)
-                }
-            }
-        }
+    let outcome = if lists_tokens {
+        list_tokens(rt, path, text.as_slice())?
+    } else {
+        check_plan(rt, path, text.as_slice())?
+    };
+    if let Err(fault) = outcome {
+        println!(rt; "{path}:{}", Complaint::new(text.as_slice(), fault))?;
     }
+    Ok(outcome.is_ok())
 }
 
-fn run(rt: &HostRuntime) -> anyhow::Result<Outcome> {
-    let mut args = env::args(rt)?;
-    let _ = args.next();
-    let mut task = Task::Check;
-    let mut files: usize = 0;
-    let mut outcome = Outcome::Well;
-    for arg in args {
-        if arg.as_str() == "--tokens" {
-            task = Task::ListTokens;
-            continue;
-        }
-        files = files.saturating_add(1);
-        if let Outcome::Refused = look_at(rt, arg.as_str(), task)? {
-            outcome = Outcome::Refused;
-        }
-    }
-    if files == 0 {
+fn run(rt: &HostRuntime) -> anyhow::Result<ExitCode> {
+    let args: Vec<String> = env::args(rt)?.skip(1).collect(rt.alloc())?;
+    if args.iter().all(|arg| arg.as_str() == "--tokens") {
         eprintln!(rt; "usage: check_plans [--tokens] FILE..")?;
-        return Ok(Outcome::Refused);
+        return Ok(ExitCode::FAILURE);
     }
-    Ok(outcome)
+    let mut lists_tokens = false;
+    let mut code = ExitCode::SUCCESS;
+    for arg in args.iter() {
+        if arg.as_str() == "--tokens" {
+            lists_tokens = true;
+        } else if !look_at(rt, arg.as_str(), lists_tokens)? {
+            code = ExitCode::FAILURE;
+        }
+    }
+    Ok(code)
 }
 
 fn main(rt: HostRuntime) -> anyhow::Result<ExitCode> {
-    match run(&rt)? {
-        Outcome::Well => Ok(ExitCode::SUCCESS),
-        _ => Ok(ExitCode::FAILURE),
-    }
+    run(&rt)
 }

@@ -1,10 +1,11 @@
-//! Refusals of a plan text in words: where it is wrong, by which number it is refused, and what to mend.
+//! What comes of a plan text, in words: where it is wrong, by which number it is refused, and what to mend; or what the
+//! plan holds.
 
 #![tactic(auto)]
 
+mod accepted;
 mod complaint;
-mod excerpt;
 mod rules;
-mod tokens_said;
 
+pub use accepted::Accepted;
 pub use complaint::Complaint;

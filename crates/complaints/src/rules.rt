@@ -1,14 +1,14 @@
 // Broken plan rules in words.
 
-use crate::excerpt::Excerpt;
 use keywords::{Keyword, keyword_of};
 use refusals::RuleFault;
 use std::fmt;
+use token_words::Excerpt;
 
 fn say_out_of_range<W: fmt::Write>(at: Excerpt<'_>, f: &mut fmt::Formatter<W>) -> fmt::Result {
     match at {
         Excerpt::Quoted(_) => write!(f, "a PassFail string is \"Pass\" or \"Fail\", and not {at}"),
-        Excerpt::Digits(bytes) if bytes.contains(&b'.') => {
+        Excerpt::Digits(digits) if digits.contains('.') => {
             write!(f, "this version is {at}; write 1.0")
         }
         _ => {
@@ -20,34 +20,23 @@ fn say_out_of_range<W: fmt::Write>(at: Excerpt<'_>, f: &mut fmt::Formatter<W>) -
     }
 }
 
-fn say_full_at<W: fmt::Write>(word: &[u8], f: &mut fmt::Formatter<W>) -> fmt::Result {
-    match keyword_of(word) {
-        Some(Keyword::BinGroup) => write!(f, "a plan has at most 16 groups; remove one"),
-        Some(Keyword::Bin) | Some(Keyword::LeafBin) => {
-            write!(f, "a plan has at most 128 bins; remove one")
-        }
-        Some(Keyword::Test) => write!(f, "a plan has at most 128 tests; remove one"),
-        Some(Keyword::Flow) => write!(f, "a plan has at most 64 flows; remove one"),
-        Some(Keyword::FlowItem) => write!(f, "a plan has at most 512 items; remove one"),
-        Some(Keyword::Result) => write!(f, "a plan has at most 1024 clauses; remove one"),
-        _ => {
-            write!(
-                f,
-                "a plan has at most 32 counters, and its clauses name at most 2048 in all; remove one"
-            )
-        }
+// What there is too much of, by the word at which its table was full.
+fn full_at(word: &str) -> &'static str {
+    match keyword_of(word.as_bytes()) {
+        Some(Keyword::BinGroup) => "a plan has at most 16 groups; remove one",
+        Some(Keyword::Bin) | Some(Keyword::LeafBin) => "a plan has at most 128 bins; remove one",
+        Some(Keyword::Test) => "a plan has at most 128 tests; remove one",
+        Some(Keyword::Flow) => "a plan has at most 64 flows; remove one",
+        Some(Keyword::FlowItem) => "a plan has at most 512 items; remove one",
+        Some(Keyword::Result) => "a plan has at most 1024 clauses; remove one",
+        _ => "a plan has at most 32 counters, and its clauses name at most 2048 in all; remove one",
     }
 }
 
-fn say_full<W: fmt::Write>(at: Excerpt<'_>, f: &mut fmt::Formatter<W>) -> fmt::Result {
+fn full(at: Excerpt<'_>) -> &'static str {
     match at {
-        Excerpt::Word(bytes) => say_full_at(bytes, f),
-        _ => {
-            write!(
-                f,
-                "the clauses of a plan list at most 2048 values in all; remove one"
-            )
-        }
+        Excerpt::Word(word) => full_at(word),
+        _ => "the clauses of a plan list at most 2048 values in all; remove one",
     }
 }
 
@@ -86,7 +75,7 @@ pub fn say_rule<W: fmt::Write>(
         RuleFault::WrongKind(_) => say_wrong_kind(at, f),
         RuleFault::OutOfRange(_) => say_out_of_range(at, f),
         RuleFault::Repeated(_) => say_repeated(at, f),
-        RuleFault::TableFull(_) => say_full(at, f),
+        RuleFault::TableFull(_) => f.write_str(full(at)),
         RuleFault::ReturnNotListed(_) => {
             write!(
                 f,
