@@ -1,46 +1,37 @@
 // `<N:body>` written out.
 
-// The body once, with the number of the turn for each `%`.
+use std::alloc::AllocError;
 
-fn push_turn(out: &mut String, body: &str, turn: u32) -> anyhow::Result<()> {
+// The body once, with the number of the turn for each `%`.
+fn push_turn(out: &mut String, body: &str, turn: u32) -> Result<(), AllocError> {
     let mut parts = body.split('%');
-    if let Some(first) = parts.next() {
-        out.push_str(first)?;
-    }
+    out.push_str(parts.next().unwrap_or(""))?;
     for part in parts {
-        write!(out, "{turn}")?;
-        out.push_str(part)?;
+        write!(out, "{turn}{part}")?;
     }
     Ok(())
 }
 
 // N:body, written out; where it is none, it stays as it is.
-fn push_repeated(out: &mut String, repeated: &str) -> anyhow::Result<()> {
-    if let Some((count, body)) = repeated.split_once(':') {
-        if let Ok(n) = count.parse::<u32>() {
-            for turn in 0..n {
-                push_turn(out, body, turn)?;
-            }
-            return Ok(());
+fn push_repeated(out: &mut String, repeated: &str) -> Result<(), AllocError> {
+    if let Some((count, body)) = repeated.split_once(':')
+        && let Ok(turns) = count.parse::<u32>()
+    {
+        for turn in 0..turns {
+            push_turn(out, body, turn)?;
         }
+        return Ok(());
     }
-    out.push_str(repeated)?;
-    Ok(())
+    out.push_str(repeated)
 }
 
-pub fn push_expanded(out: &mut String, text: &str) -> anyhow::Result<()> {
+pub fn push_expanded(out: &mut String, text: &str) -> Result<(), AllocError> {
     let mut parts = text.split('<');
-    if let Some(first) = parts.next() {
-        out.push_str(first)?;
-    }
+    out.push_str(parts.next().unwrap_or(""))?;
     for part in parts {
-        match part.split_once('>') {
-            Some((repeated, behind)) => {
-                push_repeated(out, repeated)?;
-                out.push_str(behind)?;
-            }
-            None => out.push_str(part)?,
-        }
+        let (repeated, behind) = part.split_once('>').unwrap_or(("", part));
+        push_repeated(out, repeated)?;
+        out.push_str(behind)?;
     }
     Ok(())
 }

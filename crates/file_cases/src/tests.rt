@@ -10,23 +10,18 @@ fn outcome(heap: Global, text: &[u8]) -> Result<String, Fail> {
     match read_text(text, &mut t) {
         Ok(title) => {
             let name = std::str::from_utf8(part_of(text, title))?;
-            let groups = t.groups.len();
-            let bins = t.bins.len();
-            let counters = t.counters.len();
-            let tests = t.tests.len();
-            let flows = t.flows.len();
-            let items = t.items.len();
-            let clauses = t.clauses.len();
             Ok(format!(in heap;
-                "accepted {name} {groups} {bins} {counters} {tests} {flows} {items} {clauses}"
+                "accepted {name} {} {} {} {} {} {} {}",
+                t.groups.len(),
+                t.bins.len(),
+                t.counters.len(),
+                t.tests.len(),
+                t.flows.len(),
+                t.items.len(),
+                t.clauses.len()
             )?)
         }
-        Err(fault) => {
-            let number = fault.number();
-            let place = fault.place();
-            let finder = fault.finder();
-            Ok(format!(in heap; "refused {number} at {place} by {finder}")?)
-        }
+        Err(fault) => Ok(fault.to_string(heap)?),
     }
 }
 

@@ -1,34 +1,28 @@
 // A reading written down: `place kind value` for each token, then `place end`, or `number at place` for a fault.
 
 use std::alloc::Global;
-use std::fmt::Write;
+use std::fmt;
 use std::test::Fail;
 use tokens::{Reader, Token};
 
-fn add_bytes(list: &mut String, kind: &str, bytes: &[u8]) -> Result<(), Fail> {
-    let word = std::str::from_utf8(bytes)?;
-    write!(list, " {kind} {word}, ")?;
-    Ok(())
+// A token by its kind and value.
+#[derive(Clone, Copy)]
+struct Entry<'a>(Token<'a>);
+
+fn word(bytes: &[u8]) -> &str {
+    std::str::from_utf8(bytes).unwrap_or("")
 }
 
-fn add_token(list: &mut String, token: Token<'_>) -> Result<(), Fail> {
-    match token {
-        Token::Name(bytes) => add_bytes(list, "name", bytes),
-        Token::Keyword(k) => add_bytes(list, "keyword", k.spelling()),
-        Token::Number(n) => {
-            write!(list, " number {n}, ")?;
-            Ok(())
-        }
-        Token::Decimal(bytes) => add_bytes(list, "decimal", bytes),
-        Token::Quoted(bytes) => add_bytes(list, "string", bytes),
-        Token::Mark(m) => {
-            let code = m as u8;
-            write!(list, " mark {code}, ")?;
-            Ok(())
-        }
-        Token::End => {
-            list.push_str(" end")?;
-            Ok(())
+impl fmt::Display for Entry<'_> {
+    fn fmt<W: fmt::Write>(&self, f: &mut fmt::Formatter<W>) -> fmt::Result {
+        match self.0 {
+            Token::Name(bytes) => write!(f, "name {}", word(bytes)),
+            Token::Keyword(k) => write!(f, "keyword {}", word(k.spelling())),
+            Token::Number(n) => write!(f, "number {n}"),
+            Token::Decimal(bytes) => write!(f, "decimal {}", word(bytes)),
+            Token::Quoted(bytes) => write!(f, "string {}", word(bytes)),
+            Token::Mark(m) => write!(f, "mark {}", m as u8),
+            Token::End => write!(f, "end"),
         }
     }
 }
@@ -39,17 +33,14 @@ pub fn listing(heap: Global, text: &[u8]) -> Result<String, Fail> {
     loop {
         match reader.next() {
             Ok(placed) => {
-                let place = placed.place;
-                write!(list, "{place}")?;
-                add_token(&mut list, placed.token)?;
+                write!(list, "{} {}", placed.place, Entry(placed.token))?;
                 if let Token::End = placed.token {
                     return Ok(list);
                 }
+                list.push_str(", ")?;
             }
             Err(fault) => {
-                let number = fault.number();
-                let place = fault.place();
-                write!(list, "{number} at {place}")?;
+                write!(list, "{} at {}", fault.number(), fault.place())?;
                 return Ok(list);
             }
         }
