@@ -1,6 +1,7 @@
 // The word of a text that a refusal is about.
 
-ghost use Rattle.std.specs.Prelude.{◌↔◌, ◌≡◌, ◌≤◌, length};
+ghost use Rattle.std.specs.Prelude.{drop};
+ghost use Rattle.token_words.specs.Excerpt.{Stands};
 
 use std::fmt;
 use text_bytes::{ByteKind, begins_name, is_digit, run_end};
@@ -37,7 +38,7 @@ fn front_number(text: &[u8]) -> &str {
 impl<'a> Excerpt<'a> {
     // What stands at a place; at one behind the text, its end.
     pub fn at(text: &'a [u8], place: usize) -> Excerpt<'a>
-        ensures { (result ≡ Excerpt.End) ↔ (length text.now ≤ place) }
+        ensures { Stands (drop place text.now) result }
     {
         match text.get(place..).unwrap_or(&[]) {
             [] => Excerpt::End,
