@@ -13,13 +13,8 @@ use anyhow::Context;
 use std::fs;
 use trial::Bench;
 
-// The text of a file that has no other bytes than those of UTF-8.
-fn text_of(rt: &HostRuntime, path: &str) -> anyhow::Result<String> {
-    Ok(String::from_utf8(fs::read(rt, path)?)?)
-}
-
 fn run(rt: &HostRuntime) -> anyhow::Result<()> {
-    let text = text_of(rt, "cases.txt")?;
+    let text = fs::read_to_string(rt, "cases.txt")?;
     let mut parts = text.as_str().split("\n~");
     let plan = parts.next().context("cases.txt has no plan")?;
     let mut bench = Bench::new(rt.alloc())?;

@@ -24,7 +24,7 @@ fn say_out_of_range<W: fmt::Write>(at: Excerpt<'_>, f: &mut fmt::Formatter<W>) -
 fn full_at(word: &str) -> &'static str {
     match keyword_of(word.as_bytes()) {
         Some(Keyword::BinGroup) => "a plan has at most 16 groups; remove one",
-        Some(Keyword::Bin) | Some(Keyword::LeafBin) => "a plan has at most 128 bins; remove one",
+        Some(Keyword::Bin | Keyword::LeafBin) => "a plan has at most 128 bins; remove one",
         Some(Keyword::Test) => "a plan has at most 128 tests; remove one",
         Some(Keyword::Flow) => "a plan has at most 64 flows; remove one",
         Some(Keyword::FlowItem) => "a plan has at most 512 items; remove one",
