@@ -6,9 +6,10 @@ ghost use Rattle.std.specs.Prelude.{◌≡◌, ℕ, ◌<◌, ◌≤◌, OnOk};
 ghost use Rattle.tokens.specs.Terminals.{count};
 ghost use Rattle.tokens.specs.Reading.{rest};
 ghost use Rattle.refusals.specs.Steps.{ended};
-ghost use Rattle.values.specs.Values.{coded, ranged, value_from, value_in};
+ghost use Rattle.plan.specs.Values.{value_of};
+ghost use Rattle.values.specs.Values.{placed_value, value_from, value_in};
 
-use grammar::{Numeral, ValueStart, number, value_start};
+use grammar::{ValueStart, number, value_start};
 use plan::Value;
 use refusals::{LoadFault, RuleFault};
 use tokens::Reader;
@@ -20,22 +21,12 @@ pub struct ReadValue {
     pub place: usize,
 }
 
-// The value of a number that a minus stands before or not; no value where it is out of range.
-pub fn value_of(negative: bool, n: u32) -> Option<Value>
-    ensures { result ≡ coded negative n }
+// The value of a number that stands at this place.
+fn in_range(n: i64, place: usize) -> Result<ReadValue, LoadFault>
+    ensures { result ≡ placed_value place (value_of n) }
 {
-    let n = i64::from(n);
-    Value::try_from(if negative { -n } else { n }).ok()
-}
-
-fn in_range(negative: bool, n: Numeral) -> Result<ReadValue, LoadFault>
-    ensures { result ≡ ranged negative n }
-{
-    let value = value_of(negative, n.value).ok_or(LoadFault::Rule(RuleFault::OutOfRange(n.place)))?;
-    Ok(ReadValue {
-        value,
-        place: n.place,
-    })
+    let value = Value::try_from(n).map_err(|_| RuleFault::OutOfRange(place))?;
+    Ok(ReadValue { value, place })
 }
 
 // The value that has begun so.
@@ -46,9 +37,9 @@ pub fn value_from<'a>(r: &mut Reader<'a>, start: ValueStart) -> Result<ReadValue
     match start {
         ValueStart::Minus(_) => {
             let n = number(r)?;
-            in_range(true, n)
+            in_range(-i64::from(n.value), n.place)
         }
-        ValueStart::Digits(n) => in_range(false, n),
+        ValueStart::Digits(n) => in_range(i64::from(n.value), n.place),
     }
 }
 
