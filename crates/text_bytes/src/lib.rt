@@ -8,4 +8,4 @@ mod runs;
 
 pub use kinds::{ByteKind, Mark, begins_name, is_digit, mark_of};
 pub use position::{Position, position_of};
-pub use runs::{gap_end, number_of, run_end, same_bytes};
+pub use runs::{gap_end, number_of, run_end};

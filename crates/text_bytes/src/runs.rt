@@ -2,16 +2,9 @@
 
 ghost use Rattle.std.specs.Prelude.{◌≡◌, ℕ, ◌+◌, ◌≤◌, false, length, drop};
 ghost use Rattle.std.specs.List.{prefix_len};
-ghost use Rattle.std.specs.Str.{bytes_eq};
 ghost use Rattle.text_bytes.specs.Bytes.{of_kind, gap, number};
 
 use crate::kinds::{ByteKind, is_blank, is_of_kind};
-
-pub fn same_bytes(a: &[u8], b: &[u8]) -> bool
-    ensures { result ≡ bytes_eq a.now b.now }
-{
-    a == b
-}
 
 // Where the blanks and comments that begin at `from` end. A comment ends behind its line feed.
 pub fn gap_end(text: &[u8], from: usize) -> usize
