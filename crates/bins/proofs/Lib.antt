@@ -1,3 +1,4 @@
+pub mod Climbing
 pub mod Kept
 pub mod Meant
 pub mod Rows

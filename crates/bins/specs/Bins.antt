@@ -12,6 +12,7 @@ use Rattle.grammar.specs.Readers.{name_in, number_in, string_in, symbol_in, expe
 use Rattle.plan.specs.declared.rows.Bin.{Bin}
 use Rattle.plan.specs.Drafts.{Draft, with_group, with_bin, with_sort_group}
 use Rattle.names.specs.Names.{found}
+use Rattle.productions.specs.Naming.{name_at}
 use Rattle.refusals.specs.declared.fault.LoadFault.TheVariants.{Rule}
 use Rattle.refusals.specs.declared.fault.RuleFault.TheVariants.{DeclaredBefore, NotDeclared, WrongKind, OutOfRange, Repeated, TableFull, NoSortBin}
 use Rattle.refusals.specs.Shapes.{row_turn}
@@ -70,7 +71,7 @@ bin_in text group leaf place d ts =
     parse (expect_in (Mark mk.Colon) ts) λ _ ts.
     parse (string_in ts) λ _ ts.
     then (parent_in text d.bins ts) λ parent ts.
-    Ok (with_bin (record { name = record { place = n.1; len = length n.0 }; group = group; leaf = leaf; number = number; parent = parent }) d, ts)))
+    Ok (with_bin (record { name = name_at n; group = group; leaf = leaf; number = number; parent = parent }) d, ts)))
 
 -- Bin | LeafBin
 abbrev pub begins_bin : Symbol → Bool
@@ -79,18 +80,23 @@ begins_bin s = same_symbol s (Keyword kw.Bin) || same_symbol s (Keyword kw.LeafB
 abbrev pub bin_turn : List ℕ → ℕ → Draft × Found → Tokens → Loaded (Bool × (Draft × Found))
 bin_turn text group = row_turn (λ f. begins_bin f.symbol) λ f. bin_in text group (same_symbol f.symbol (Keyword kw.LeafBin)) f.place
 
+-- { bin+ }
+abbrev pub group_bins_in : List ℕ → ℕ → Draft → Tokens → Loaded Draft
+group_bins_in text group d ts =
+    parse (expect_in (Mark mk.OpenBrace) ts) λ _ ts.
+    parse (symbol_in ts) λ next ts.
+    allow (begins_bin next.symbol) next.place
+    (then (many (bin_turn text group) (d, next) ts) λ s ts.
+    allow (same_symbol s.1.symbol (Mark mk.CloseBrace)) s.1.place
+    (Ok (s.0, ts)))
+
 -- name { bin+ }   behind a keyword at this place
 abbrev pub group_in : List ℕ → ℕ → Draft → Tokens → Loaded Draft
 group_in text place d ts =
     refuse (nat_le 16 (length d.groups)) (TableFull place)
     (parse (name_in ts) λ n ts.
     refuse (is_some (found (λ g. g.name) text d.groups n.0)) (DeclaredBefore n.1)
-    (parse (expect_in (Mark mk.OpenBrace) ts) λ _ ts.
-    parse (symbol_in ts) λ next ts.
-    allow (begins_bin next.symbol) next.place
-    (then (many (bin_turn text (length d.groups)) (with_group (record { name = record { place = n.1; len = length n.0 } }) d, next) ts) λ s ts.
-    allow (same_symbol s.1.symbol (Mark mk.CloseBrace)) s.1.place
-    (Ok (s.0, ts)))))
+    (group_bins_in text (length d.groups) (with_group (record { name = name_at n }) d) ts))
 
 -- BinGroup
 abbrev pub begins_group : Symbol → Bool

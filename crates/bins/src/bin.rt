@@ -1,35 +1,32 @@
 // A bin: its name, its number, its label and the bin that it stands below.
 
 ghost use Rattle.std.specs.Prelude.{◌≡◌, ℕ, ◌<◌, OnOk};
+ghost use Rattle.keywords.specs.declared.Keyword.TheVariants.{LeafBin};
 ghost use Rattle.tokens.specs.Terminals.{count};
 ghost use Rattle.tokens.specs.Reading.{rest};
-ghost use Rattle.plan.specs.Drafts.{drafted};
+ghost use Rattle.refusals.specs.Shapes.{is_keyword};
 ghost use Rattle.refusals.specs.Steps.{ended};
-ghost use Rattle.bins.specs.Bins.{has_number, number_taken, bin_number_in, leaf_at, parent_in, bin_in};
+ghost use Rattle.bins.specs.Bins.{number_taken, bin_number_in, leaf_at, parent_in, begins_bin, bin_in};
 
-use grammar::{GrammarFault, Symbol, any_symbol, expect, name, number, string};
-use names::find;
-use plan::{Bin, MOST_BINS, Name, Tables};
+use grammar::{Found, Symbol, any_symbol, expect, name, number, string};
+use keywords::Keyword;
+use plan::Bin;
+use productions::{Desk, Row, declared, fresh};
 use refusals::{LoadFault, RuleFault};
 use text_bytes::Mark;
 use tokens::Reader;
-
-fn has_number(bin: &Bin, group: usize, number: u32) -> bool
-    ensures { result ≡ has_number group number bin.now }
-{
-    bin.group == group && bin.number == number
-}
 
 // Whether a bin of the group has this number.
 fn number_taken(bins: &[Bin], group: usize, number: u32) -> bool
     ensures { result ≡ number_taken group number bins.now }
 {
-    for bin in bins {
-        if has_number(bin, group, number) {
-            return true;
-        }
-    }
-    false
+    bins.iter().any(|b| b.group == group && b.number == number)
+}
+
+fn is_leaf(bins: &[Bin], i: usize) -> bool
+    ensures { result ≡ leaf_at bins.now i }
+{
+    bins.get(i).is_some_and(|b| b.leaf)
 }
 
 // A number that no bin of the group has yet.
@@ -39,18 +36,12 @@ fn bin_number<'a>(r: &mut Reader<'a>, bins: &[Bin], group: usize) -> Result<u32,
 {
     let n = number(r)?;
     if n.value > 65535 {
-        return Err(LoadFault::Rule(RuleFault::OutOfRange(n.place)));
+        return Err(RuleFault::OutOfRange(n.place).into());
     }
     if number_taken(bins, group, n.value) {
-        return Err(LoadFault::Rule(RuleFault::Repeated(n.place)));
+        return Err(RuleFault::Repeated(n.place).into());
     }
     Ok(n.value)
-}
-
-fn is_leaf(bins: &[Bin], i: usize) -> bool
-    ensures { result ≡ leaf_at bins.now i }
-{
-    i < bins.len() && bins[i].leaf
 }
 
 // [, name] ;
@@ -59,57 +50,53 @@ fn parent<'a>(r: &mut Reader<'a>, text: &[u8], bins: &[Bin]) -> Result<Option<us
     ensures on { OnOk result (count (rest r.new) < count (rest r.old)) }
 {
     let next = any_symbol(r)?;
-    if next.symbol == Symbol::Mark(Mark::Semicolon) {
+    if next.is_mark(Mark::Semicolon) {
         return Ok(None);
     }
-    if next.symbol != Symbol::Mark(Mark::Comma) {
-        return Err(LoadFault::Grammar(GrammarFault::NotAllowed(next.place)));
+    next.must_be(Symbol::Mark(Mark::Comma))?;
+    let word = name(r)?;
+    let parent = declared(bins, text, word)?;
+    if is_leaf(bins, parent) {
+        return Err(RuleFault::WrongKind(word.place).into());
     }
-    let n = name(r)?;
-    match find(bins, text, n.bytes) {
-        None => Err(LoadFault::Rule(RuleFault::NotDeclared(n.place))),
-        Some(i) => {
-            if is_leaf(bins, i) {
-                return Err(LoadFault::Rule(RuleFault::WrongKind(n.place)));
-            }
-            expect(r, Symbol::Mark(Mark::Semicolon))?;
-            Ok(Some(i))
-        }
-    }
+    expect(r, Symbol::Mark(Mark::Semicolon))?;
+    Ok(Some(parent))
 }
 
-// name number : string [, name] ;
-pub fn bin<'a>(
-    r: &mut Reader<'a>,
-    text: &[u8],
-    t: &mut Tables,
-    group: usize,
-    leaf: bool,
-    place: usize,
-) -> Result<(), LoadFault>
-    ensures told { ended (λ _. drafted t.new) result (rest r.new) ≡ bin_in text.now group leaf place (drafted t.old) (rest r.old) }
-    ensures on { OnOk result (count (rest r.new) < count (rest r.old)) }
-{
-    if t.bins.len() >= MOST_BINS {
-        return Err(LoadFault::Rule(RuleFault::TableFull(place)));
+// A bin of the group with this number.
+#[derive(Clone, Copy)]
+pub struct BinRow {
+    pub group: usize,
+}
+
+// (Bin | LeafBin) name number : string [, name] ;
+impl Row for BinRow {
+    ghost begins = { λ _ next. begins_bin next.symbol };
+
+    ghost production = { λ row next text. bin_in text row.group (is_keyword LeafBin next) next.place };
+
+    fn begins(&self, next: Found) -> bool {
+        next.is_keyword(Keyword::Bin) || next.is_keyword(Keyword::LeafBin)
     }
-    let n = name(r)?;
-    if find(t.bins.as_slice(), text, n.bytes).is_some() {
-        return Err(LoadFault::Rule(RuleFault::DeclaredBefore(n.place)));
+
+    fn read<'a, 't>(&self, desk: &mut Desk<'a, 't>, next: Found) -> Result<(), LoadFault> {
+        let t = &mut *desk.tables;
+        if t.bins.is_full() {
+            return Err(RuleFault::TableFull(next.place).into());
+        }
+        let word = name(&mut desk.reader)?;
+        let name = fresh(t.bins.as_slice(), desk.text, word)?;
+        let number = bin_number(&mut desk.reader, t.bins.as_slice(), self.group)?;
+        expect(&mut desk.reader, Symbol::Mark(Mark::Colon))?;
+        string(&mut desk.reader)?;
+        let parent = parent(&mut desk.reader, desk.text, t.bins.as_slice())?;
+        t.bins.add(Bin {
+            name,
+            group: self.group,
+            leaf: next.is_keyword(Keyword::LeafBin),
+            number,
+            parent,
+        });
+        Ok(())
     }
-    let number = bin_number(r, t.bins.as_slice(), group)?;
-    expect(r, Symbol::Mark(Mark::Colon))?;
-    string(r)?;
-    let parent = parent(r, text, t.bins.as_slice())?;
-    t.add_bin(Bin {
-        name: Name {
-            place: n.place,
-            len: n.bytes.len(),
-        },
-        group,
-        leaf,
-        number,
-        parent,
-    });
-    Ok(())
 }

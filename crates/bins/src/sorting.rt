@@ -3,27 +3,13 @@
 ghost use Rattle.std.specs.Prelude.{◌≡◌, length};
 ghost use Rattle.bins.specs.Sorting.{sort_bin_above, unsorted, first_unsorted};
 
-use plan::Bin;
+use plan::{Bin, first_of_group};
 
-// Whether a bin of the group stands at or above the bin of this number. No way up is longer than the table.
+// Whether a bin of the group stands at or above the bin of this number.
 fn has_sort_bin(bins: &[Bin], group: usize, i: usize) -> bool
     ensures { result ≡ sort_bin_above bins.now group (length bins.now) i }
 {
-    let mut at = i;
-    for _ in 0..bins.len() {
-        if at >= bins.len() {
-            return false;
-        }
-        let bin = bins[at];
-        if bin.group == group {
-            return true;
-        }
-        match bin.parent {
-            None => return false,
-            Some(parent) => at = parent,
-        }
-    }
-    false
+    first_of_group(bins, group, i).is_some()
 }
 
 fn is_unsorted(bins: &[Bin], group: usize, i: usize, bin: &Bin) -> bool
@@ -36,10 +22,8 @@ fn is_unsorted(bins: &[Bin], group: usize, i: usize, bin: &Bin) -> bool
 pub fn first_unsorted(bins: &[Bin], group: usize) -> Option<usize>
     ensures { result ≡ first_unsorted bins.now group }
 {
-    for (i, bin) in bins.iter().enumerate() {
-        if is_unsorted(bins, group, i, bin) {
-            return Some(bin.name.place);
-        }
-    }
-    None
+    bins.iter()
+        .enumerate()
+        .find(|(i, bin)| is_unsorted(bins, group, *i, bin))
+        .map(|(_, bin)| bin.name.place)
 }

@@ -4,7 +4,7 @@ ghost use Rattle.productions.specs.Desks.{Reads, rows};
 ghost use Rattle.declarations.specs.Counters.{counter_in, counters_in};
 
 use grammar::{Symbol, expect, name};
-use plan::{Counter, MOST_COUNTERS};
+use plan::Counter;
 use productions::{Desk, Entry, fresh, list};
 use refusals::{LoadFault, RuleFault};
 use text_bytes::Mark;
@@ -19,7 +19,7 @@ impl Entry for CounterName {
         let word = name(&mut desk.reader)?;
         let t = &mut *desk.tables;
         let name = fresh(t.counters.as_slice(), desk.text, word)?;
-        if t.counters.len() >= MOST_COUNTERS {
+        if t.counters.is_full() {
             return Err(RuleFault::TableFull(word.place).into());
         }
         t.counters.add(Counter { name });

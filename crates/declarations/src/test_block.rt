@@ -8,7 +8,7 @@ ghost use Rattle.productions.specs.Desks.{Reads, rows};
 ghost use Rattle.declarations.specs.Tests.{setting_in, setter_turn, setters_in, test_in};
 
 use grammar::{Symbol, expect, name, name_or_close, setter_value};
-use plan::{MOST_TESTS, Test};
+use plan::Test;
 use productions::{Desk, is_runnable, named};
 use refusals::{LoadFault, RuleFault};
 use text_bytes::Mark;
@@ -62,7 +62,7 @@ pub fn test<'a, 't>(desk: &mut Desk<'a, 't>, place: usize) -> Result<(), LoadFau
     ensures { Reads (λ text. test_in text place) (λ _. rows desk.new) desk.old desk.new result }
 {
     let t = &mut *desk.tables;
-    if t.tests.len() >= MOST_TESTS {
+    if t.tests.is_full() {
         return Err(RuleFault::TableFull(place).into());
     }
     name(&mut desk.reader)?;

@@ -34,6 +34,7 @@ abbrev pub braced_in : (Found → Bool) → (Found → List ℕ → Draft → To
 braced_in begins row text d ts =
     parse (expect_in (sy.Mark OpenBrace) ts) λ _ ts.
     parse (symbol_in ts) λ first ts.
-    then (some_rows_in begins row first text d ts) λ s ts.
+    allow (begins first) first.place
+    (then (rows_in begins row first text d ts) λ s ts.
     allow (is_mark CloseBrace s.1) s.1.place
-    (Ok (s.0, ts))
+    (Ok (s.0, ts)))
