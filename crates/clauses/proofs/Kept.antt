@@ -1,5 +1,5 @@
 -- What a clause adds to the tables, and the rules that the rows keep which it adds.
-use Rattle.std.proofs.Common.{◌≡◌, ℕ, zero, suc, ◌+◌, ◌-◌, ◌<◌, ◌≤◌, Bool, true, false, cond, not, eqb, leb, List, [], ◌∷◌, ◌++◌, map, length, drop, Some, None, Ok, Option, sym, refl, ap, ◌∙◌, subst, inl, inr, append_assoc, append-nil, arith, length-append}
+use Rattle.std.proofs.Common.{◌≡◌, ℕ, zero, suc, ◌+◌, ◌-◌, ◌<◌, ◌≤◌, Bool, true, false, cond, not, ◌||◌, eqb, leb, List, [], ◌∷◌, ◌++◌, map, length, drop, Some, None, Ok, Option, sym, refl, ap, ◌∙◌, subst, inl, inr, append_assoc, append-nil, arith, length-append}
 use Rattle.std.proofs.lemmas.List.{drop_at, drop_all, drop-append-le, map-id}
 use Rattle.std.proofs.lemmas.Bool.{true≢false, both_ways, not-false, and_parts, eq-eqb, leb-true, leb-false}
 use Rattle.std.specs.List.{slice_get}
@@ -16,6 +16,7 @@ use Rattle.plan.specs.declared.rows.Bin.{Bin}
 use Rattle.plan.specs.declared.rows.Clause.{Clause}
 use Rattle.plan.specs.declared.rows.Next.{Next}
 use Rattle.plan.specs.declared.rows.Next.TheVariants.{GoTo, Return}
+use Rattle.plan.specs.declared.rows.Span.{Span}
 use Rattle.plan.specs.declared.rows.Value.{Value}
 use Rattle.plan.specs.Drafts.{Draft, with_clause}
 use Rattle.plan.specs.Meaning.{code_of}
@@ -28,11 +29,12 @@ use Rattle.values.specs.declared.ReadValue.{ReadValue}
 use Rattle.values.specs.Values.{coded, placed_value, leaving, value_from, value_in}
 use Rattle.refusals.specs.declared.fault.RuleFault.TheVariants.{NotDeclared, WrongKind, Repeated, TableFull}
 use Rattle.refusals.specs.Steps.{Loaded, parse, then, allow, turns, many}
-use Rattle.refusals.specs.Shapes.{is_keyword, another_in, optional}
+use Rattle.refusals.specs.Shapes.{is_keyword, optional}
+use Rattle.productions.proofs.Leaving.{entered}
 use Rattle.refusals.proofs.Passing.{no_fault, accepted, parse_passed, then_passed, refuse_passed, allow_passed, turns_keep, many_keeps}
 use Rattle.clauses.specs.Parts.{among}
 use Rattle.clauses.specs.Clauses.{start_in, listed_in, values_full, value_turn, values_in, verdict_in, mention_in, mention_turn, mentions_in, counters_in, leaf_of, leaf_in, set_bin_in, go_to_in, return_in, next_in, end_in, body_in, clause_in, span}
-use Rattle.clauses.proofs.Beside.{Beside, beside, beside_mention, beside_then, have_passed, values_beside}
+use Rattle.clauses.proofs.Beside.{Beside, beside, beside_value, beside_mention, beside_clause, beside_then, have_passed}
 
 -- rows that were added at the end of a table: from the row `first` on no code stands twice, if none did; the codes of the new
 -- rows are below a bound, and the rows are not too many, if they were not
@@ -48,7 +50,7 @@ module _ {R : Type 0} (code : R → ℕ) where
   among_free n [] e i at = never_some n at
   among_free n (x ∷ rows) e i at = by (eqb (code x) n) refl e i at (among_free n rows)
     where
-      by : (t : Bool) → eqb (code x) n ≡ t → cond t true (among code n rows) ≡ false → (i : ℕ) → slice_get (code x ∷ map code rows) i ≡ Some n → (among code n rows ≡ false → (i : ℕ) → slice_get (map code rows) i ≡ Some n → ⊥) → ⊥
+      by : (t : Bool) → eqb (code x) n ≡ t → (t || among code n rows) ≡ false → (i : ℕ) → slice_get (code x ∷ map code rows) i ≡ Some n → (among code n rows ≡ false → (i : ℕ) → slice_get (map code rows) i ≡ Some n → ⊥) → ⊥
       by true same e i at later = true≢false e
       by false same e zero at later = both_ways (eqb (code x) n) same (eq-eqb _ _ (the_same at))
       by false same e (suc i) at later = later e i at
@@ -85,16 +87,17 @@ many_makes {S} turn P keeps s ts made t us h =
     on true x vs p g = turns_keep turn (λ s _. P s) keeps (count ts) x vs t us g p
     on false x vs p g = subst P (accepted g).0 p
 
--- an optional part: what holds without it, and what the part makes so
-optional_made : {X : Type 0} (k : Keyword) (none : X) (part : Tokens → Loaded X) (P : X → Type 0) → P none → (f : Found) (ts : Tokens) → ((x : X) (us : Tokens) → part ts ≡ Ok (x, us) → P x) → (v : X × Found) (us : Tokens) → optional k none part f ts ≡ Ok (v, us) → P v.0
-optional_made {X} k none part P p f ts made v us h = by (is_keyword k f) h
+-- an optional part: what holds where it is left out, or the part makes so, if the symbol behind it keeps it
+pub optional_makes : {X : Type 0} (k : Keyword) (none : X) (part : Tokens → Loaded X) (P : X → Tokens → Type 0) → ((x : X) (ts : Tokens) (f : Found) (us : Tokens) → symbol_in ts ≡ Ok (f, us) → P x ts → P x us) → (f : Found) (ts : Tokens) → P none ts → ((x : X) (us : Tokens) → part ts ≡ Ok (x, us) → P x us) → (v : X × Found) (us : Tokens) → optional k none part f ts ≡ Ok (v, us) → P v.0 us
+optional_makes {X} k none part P on f ts left made v us h = by (is_keyword k f) h
   where
-    by : (t : Bool) → cond t (then {Y = X × Found} (part ts) λ x ts. parse (symbol_in ts) λ g ts. Ok ((x, g), ts)) (Ok ((none, f), ts)) ≡ Ok (v, us) → P v.0
+    by : (t : Bool) → cond t (then {Y = X × Found} (part ts) λ x ts. parse (symbol_in ts) λ g ts. Ok ((x, g), ts)) (Ok ((none, f), ts)) ≡ Ok (v, us) → P v.0 us
     by true h =
         let one = then_passed (part ts) h in
         let next = parse_passed (symbol_in one.us) one.goes in
-        subst (λ x. P x.0) (accepted next.goes).0 (made one.v one.us one.is)
-    by false h = subst (λ x. P x.0) (accepted h).0 p
+        let e = accepted next.goes in
+        subst (λ x. P x.0 us) e.0 (subst (P one.v) e.1 (on one.v one.us next.v next.us next.is (made one.v one.us one.is)))
+    by false h = let e = accepted h in subst (λ x. P x.0 us) e.0 (subst (P none) e.1 left)
 
 -- values
 
@@ -130,6 +133,7 @@ pub record Listed (first : ℕ) (d e : Draft) : Type 0 where
   pub values : Grown code_of first 65536 d.values e.values
   pub mentions : e.mentions ≡ d.mentions
   pub clauses : e.clauses ≡ d.clauses
+  pub others : Beside d e
 
 module _ (first : ℕ) (d : Draft) where
   abbrev Longer : Draft → Type 0
@@ -145,13 +149,12 @@ module _ (first : ℕ) (d : Draft) where
       let fits = from_fits start.v start.us v value.us value.is in
       let grown = grown_more code_of first 65536 d.values s.values v.value l.values once.0 fits (leb-false 2048 (length s.values) room.0) in
       let was = grown_length code_of first 65536 d.values s.values l.values in
-      subst Longer (accepted room.1).0 (record { values = grown; mentions = l.mentions; clauses = l.clauses }, omega (arith, was, length-append s.values (v.value ∷ [])))
+      subst Longer (accepted room.1).0 (record { values = grown; mentions = l.mentions; clauses = l.clauses; others = beside_then l.others (beside_value v.value s) }, omega (arith, was, length-append s.values (v.value ∷ [])))
 
   value_turn_listed : (s : Draft) (ts : Tokens) (more : Bool) (e : Draft) (us : Tokens) → value_turn first s ts ≡ Ok ((more, e), us) → Listed first d s → Longer e
   value_turn_listed s ts more e us h l =
-      let one = then_passed (listed_in first s ts) h in
-      let next = parse_passed (another_in mk.OpenBrace one.us) one.goes in
-      subst Longer (ap (λ x. x.1) (accepted next.goes).0) (listed_one s ts one.v one.us one.is l)
+      let one = entered mk.OpenBrace (listed_in first) s ts more e us h in
+      listed_one s ts e one.behind one.read l
 
   -- one value at least was listed
   pub values_listed : (ts : Tokens) (e : Draft) (us : Tokens) → values_in first d ts ≡ Ok (e, us) → Listed first d e × (length d.values < length e.values)
@@ -159,7 +162,7 @@ module _ (first : ℕ) (d : Draft) where
       many_makes (value_turn first) Longer
       (λ s ts more t us k p. value_turn_listed s ts more t us k p.0)
       d ts
-      (λ more t us k. value_turn_listed d ts more t us k (record { values = grown_none code_of first 65536 d.values; mentions = refl; clauses = refl }))
+      (λ more t us k. value_turn_listed d ts more t us k (record { values = grown_none code_of first 65536 d.values; mentions = refl; clauses = refl; others = beside d }))
       e us h
 
 -- counters
@@ -191,13 +194,12 @@ module _ (text : List ℕ) (d : Draft) where
 
   mention_turn_mentioned : (s : Draft) (ts : Tokens) (more : Bool) (e : Draft) (us : Tokens) → mention_turn text from s ts ≡ Ok ((more, e), us) → Mentioned d s → Mentioned d e
   mention_turn_mentioned s ts more e us h m =
-      let one = then_passed (mention_in text from s ts) h in
-      let next = parse_passed (another_in mk.Semicolon one.us) one.goes in
-      subst (Mentioned d) (ap (λ x. x.1) (accepted next.goes).0) (mentioned_one s ts one.v one.us one.is m)
+      let one = entered mk.Semicolon (mention_in text from) s ts more e us h in
+      mentioned_one s ts e one.behind one.read m
 
   pub counters_mentioned : (f : Found) (ts : Tokens) (k : Draft × Found) (us : Tokens) → counters_in text d f ts ≡ Ok (k, us) → Mentioned d k.0
   counters_mentioned f ts k us h =
-      optional_made kw.IncrementCounters d (mentions_in text from d) (Mentioned d) (mentioned_none d) f ts
+      optional_makes kw.IncrementCounters d (mentions_in text from d) (λ e _. Mentioned d e) (λ e ts g us s m. m) f ts (mentioned_none d)
       (λ x us e. many_keeps (mention_turn text from) (Mentioned d) mention_turn_mentioned d ts x us e (mentioned_none d))
       k us h
 
@@ -228,7 +230,7 @@ module _ (text : List ℕ) (d : Draft) where
       subst (LeafSet d.bins) (accepted end.goes).0 (λ l e. subst (λ x. (b : Bin) × (slice_get d.bins x ≡ Some b) × (b.leaf ≡ true)) (the_same e) is)
 
   pub set_bin_leaf : (f : Found) (ts : Tokens) (v : Option ℕ × Found) (us : Tokens) → set_bin_in text d f ts ≡ Ok (v, us) → LeafSet d.bins v.0
-  set_bin_leaf f ts v us h = optional_made kw.SetBin None (leaf_in text d) (LeafSet d.bins) (λ l e. never_some l e) f ts (leaf_set ts) v us h
+  set_bin_leaf f ts v us h = optional_makes kw.SetBin None (leaf_in text d) (λ leaf _. LeafSet d.bins leaf) (λ leaf ts g us s l. l) f ts (λ l e. never_some l e) (leaf_set ts) v us h
 
 -- where it leads
 
@@ -291,13 +293,13 @@ named_once_lem bound xs ys g =
     subst Once (map-id (drop (length xs) ys) ∙ (ap (drop (length xs)) g.is ∙ drop_at xs g.more (length xs) refl)) (g.once (omega arith) before)
 
 -- the row of a clause behind its values and its counters
-row_added : (first : ℕ) (d s e : Draft) (row : Clause) → length d.clauses < 1024 → Listed first d s → length d.values < length s.values → Beside d s → Mentioned s e → row.values ≡ span (length d.values) (length s.values) → row.counters ≡ span (length s.mentions) (length e.mentions) → LeafSet e.bins row.leaf → ReturnsFit row.next → ClauseAdded first d (with_clause row e)
-row_added first d s e row room l some b m values counters leaf returns =
+row_added : (first : ℕ) (d s e : Draft) (row : Clause) → length d.clauses < 1024 → Listed first d s → length d.values < length s.values → Mentioned s e → row.values ≡ span (length d.values) (length s.values) → row.counters ≡ span (length s.mentions) (length e.mentions) → LeafSet e.bins row.leaf → ReturnsFit row.next → ClauseAdded first d (with_clause row e)
+row_added first d s e row room l some m values counters leaf returns =
     let clauses = m.clauses ∙ l.clauses in
-    let all = beside_then b m.others in
+    let all = beside_then l.others m.others in
     let listed = subst (Grown code_of first 65536 d.values) (sym m.values) l.values in
     let named : Grown (λ (k : ℕ). k) (length d.mentions) (length d.counters) d.mentions e.mentions =
-    subst (λ (n : List ℕ). Grown (λ (k : ℕ). k) (length n) (length d.counters) n e.mentions) l.mentions (subst (λ n. Grown (λ (k : ℕ). k) (length s.mentions) n s.mentions e.mentions) (ap length b.counters) m.mentions) in
+    subst (λ (n : List ℕ). Grown (λ (k : ℕ). k) (length n) (length d.counters) n e.mentions) l.mentions (subst (λ n. Grown (λ (k : ℕ). k) (length s.mentions) n s.mentions e.mentions) (ap length l.others.counters) m.mentions) in
     record {
       clause = row;
       clauses = ap (λ x. x ++ row ∷ []) clauses;
@@ -310,8 +312,18 @@ row_added first d s e row room l some b m values counters leaf returns =
       counters = counters ∙ ap (λ (x : List ℕ). span (length x) (length e.mentions)) l.mentions;
       leaf = subst (λ x. LeafSet x row.leaf) all.bins leaf;
       returns = returns;
-      others = record { groups = all.groups; bins = all.bins; counters = all.counters; tests = all.tests; flows = all.flows; items = all.items; sort_group = all.sort_group; main_flow = all.main_flow };
+      others = beside_then all (beside_clause row e);
     }
+
+-- up to its own row a clause leaves the clauses alone
+pub clauses_left : (text : List ℕ) (first : ℕ) (d : Draft) (ts : Tokens) (s : Draft) (us : Tokens) → Ok (s, us) ≡ values_in first d ts → (values : Span) (e : Draft) (row : Clause) (vs : Tokens) → Ok ((e, row), vs) ≡ body_in text values s us → e.clauses ≡ d.clauses
+clauses_left text first d ts s us listed values e row vs h =
+    let f = parse_passed (symbol_in us) (sym h) in
+    let verdict = then_passed (verdict_in f.v f.us) f.goes in
+    let counters = then_passed (counters_in text s verdict.v.1 verdict.us) verdict.goes in
+    let end = then_passed (end_in text counters.v.0 counters.v.1 counters.us) counters.goes in
+    let mentioned = counters_mentioned text s verdict.v.1 verdict.us counters.v counters.us counters.is in
+    ap (λ (b : Draft × Clause). b.0.clauses) (sym (accepted end.goes).0) ∙ mentioned.clauses ∙ (values_listed first d ts s us (sym listed)).0.clauses
 
 pub clause_added : (text : List ℕ) (p first : ℕ) (d : Draft) (ts : Tokens) (e : Draft) (us : Tokens) → clause_in text p first d ts ≡ Ok (e, us) → ClauseAdded first d e
 unfolding clause_in
@@ -328,4 +340,7 @@ clause_added text p first d ts e us h =
     let mentioned = counters_mentioned text s verdict.v.1 verdict.us counters.v counters.us counters.is in
     let ends = end_fits text counters.v.0 counters.v.1 counters.us end.v end.us end.is in
     subst (ClauseAdded first d) (ap (λ (x : Draft × Clause). with_clause x.1 x.0) (accepted end.goes).0 ∙ (accepted body.goes).0)
-    (row_added first d s counters.v.0 _ (leb-false 1024 (length d.clauses) room.0) listed.0 listed.1 (values_beside first d ts s values.us values.is) mentioned refl refl ends.0 ends.1)
+    (row_added first d s counters.v.0 _ (leb-false 1024 (length d.clauses) room.0) listed.0 listed.1 mentioned refl refl ends.0 ends.1)
+
+pub clause_beside : (text : List ℕ) (p first : ℕ) (d : Draft) (ts : Tokens) (e : Draft) (us : Tokens) → clause_in text p first d ts ≡ Ok (e, us) → Beside d e
+clause_beside text p first d ts e us h = (clause_added text p first d ts e us h).others

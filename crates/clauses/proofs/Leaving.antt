@@ -1,65 +1,49 @@
 -- Behind a clause the names among the tokens are still what the text has at their places.
-use Rattle.std.proofs.Common.{◌≡◌, ℕ, suc, Bool, true, false, cond, not, leb, List, length, drop, None, Ok, Err, Result, refl, ap, subst, arith}
+use Rattle.std.proofs.Common.{◌≡◌, ℕ, suc, Bool, true, false, cond, not, leb, List, length, drop, None, Ok, subst}
 use Rattle.std.specs.List.{slice_get}
 use Rattle.keywords.specs.declared.Keyword.{Keyword}
 use Rattle.keywords.specs.declared.Keyword.TheVariants as kw
 use Rattle.text_bytes.specs.declared.kinds.Mark.{Mark}
 use Rattle.text_bytes.specs.declared.kinds.Mark.TheVariants as mk
 use Rattle.tokens.specs.Terminals.{Tokens, count}
-use Rattle.grammar.specs.declared.fault.GrammarFault.TheVariants.{NotAllowed}
 use Rattle.grammar.specs.declared.readers.ValueStart.{ValueStart}
 use Rattle.grammar.specs.declared.readers.ValueStart.TheVariants.{Minus, Digits}
 use Rattle.grammar.specs.declared.symbols.Found.{Found}
 use Rattle.grammar.specs.declared.symbols.Symbol.TheVariants as sy
-use Rattle.grammar.specs.Readers.{Parsed, a_value_start, name_in, string_in, symbol_in, expect_in, value_start_in}
+use Rattle.grammar.specs.Readers.{a_value_start, name_in, string_in, symbol_in, expect_in, value_start_in}
 use Rattle.plan.specs.Drafts.{Draft}
 use Rattle.plan.specs.Meaning.{code_of}
 use Rattle.names.specs.Names.{found}
 use Rattle.values.specs.Values.{value_from, value_in}
 use Rattle.refusals.specs.declared.fault.RuleFault.TheVariants.{NotDeclared, WrongKind, OutOfRange, Repeated, TableFull}
-use Rattle.refusals.specs.Steps.{Loaded, parse, then, allow, many}
-use Rattle.refusals.specs.Shapes.{is_keyword, is_mark, another, another_in, optional}
+use Rattle.refusals.specs.Steps.{Loaded, allow, many}
+use Rattle.refusals.specs.Shapes.{is_keyword, optional}
+use Rattle.productions.specs.Following.{list_turn}
+use Rattle.productions.proofs.Leaving.{Leaves, turn_leaves}
 use Rattle.refusals.proofs.Passing.{accepted, parse_passed, then_passed, refuse_passed, allow_passed, turns_keep}
 use Rattle.refusals.proofs.Spelled.{NamesAt, want_leaves, expect_leaves, placed_leaves}
 use Rattle.values.proofs.Left.{value_from_leaves, value_leaves}
 use Rattle.clauses.specs.Parts.{among}
-use Rattle.clauses.specs.Clauses.{start_in, room_from, listed_in, values_full, value_turn, values_in, verdict_of, property_in, verdict_in, mention_in, mention_turn, mentions_in, counters_in, leaf_of, leaf_in, set_bin_in, go_to_in, return_in, next_in, end_in, body_in, clause_in, span}
+use Rattle.clauses.specs.Clauses.{start_in, room_from, listed_in, values_full, values_in, verdict_of, property_in, verdict_in, mention_in, mentions_in, counters_in, leaf_of, leaf_in, set_bin_in, go_to_in, return_in, next_in, end_in, body_in, clause_in, span}
 use Rattle.clauses.proofs.Beside.{have_passed}
+use Rattle.clauses.proofs.Kept.{optional_makes}
 
 module _ (text : List ℕ) where
-  -- the names stand in the text before and behind what was read
-  abbrev Leaves : {X E : Type 0} → (Tokens → Result (X × Tokens) E) → Type 0
-  Leaves {X} reads = (ts : Tokens) (v : X) (us : Tokens) → reads ts ≡ Ok (v, us) → NamesAt text ts → NamesAt text us
+  optional_leaves : {X : Type 0} (k : Keyword) (none : X) (part : Tokens → Loaded X) → Leaves text part → (f : Found) → Leaves text (optional k none part f)
+  optional_leaves k none part leaves f ts v us h n =
+      optional_makes k none part (λ _. NamesAt text) (λ x ts g us s m. want_leaves text _ _ ts g us s m) f ts n (λ x us e. leaves ts x us e n) v us h
 
-  another_leaves : (last : Mark) → Leaves (another_in last)
-  another_leaves last ts v us h n = by (symbol_in ts) refl h
-    where
-      behind : (f : Found) (vs : Tokens) (a b : Bool) → NamesAt text vs → cond {A = Parsed Bool} a (Ok (true, vs)) (cond b (Ok (false, vs)) (Err (NotAllowed f.place))) ≡ Ok (v, us) → NamesAt text us
-      behind f vs true b m h = let e : ◌≡◌ {A = Bool × Tokens} (true, vs) (v, us) = cc in subst (NamesAt text) (ap (λ x. x.1) e) m
-      behind f vs false true m h = let e : ◌≡◌ {A = Bool × Tokens} (false, vs) (v, us) = cc in subst (NamesAt text) (ap (λ x. x.1) e) m
-      behind f vs false false m h = let z : ◌≡◌ {A = ℕ} 0 1 = cc in absurd (omega arith)
-
-      by : (x : Parsed Found) → symbol_in ts ≡ x → another last x ≡ Ok (v, us) → NamesAt text us
-      by (Ok f) e h = behind f.0 f.1 (is_mark mk.Comma f.0) (is_mark last f.0) (want_leaves text _ _ ts f.0 f.1 e n) h
-      by (Err f) e h = let z : ◌≡◌ {A = ℕ} 0 1 = cc in absurd (omega arith)
-
-  optional_leaves : {X : Type 0} (k : Keyword) (none : X) (part : Tokens → Loaded X) → Leaves part → (f : Found) → Leaves (optional k none part f)
-  optional_leaves {X} k none part leaves f ts v us h n = by (is_keyword k f) h
-    where
-      by : (t : Bool) → cond t (then {Y = X × Found} (part ts) λ x ts. parse (symbol_in ts) λ g ts. Ok ((x, g), ts)) (Ok ((none, f), ts)) ≡ Ok (v, us) → NamesAt text us
-      by true h =
-          let one = then_passed (part ts) h in
-          let next = parse_passed (symbol_in one.us) one.goes in
-          subst (NamesAt text) (accepted next.goes).1 (want_leaves text _ _ one.us next.v next.us next.is (leaves ts one.v one.us one.is n))
-      by false h = subst (NamesAt text) (accepted h).1 n
+  list_leaves : {S : Type 0} (last : Mark) (entry : S → Tokens → Loaded S) → ((s : S) → Leaves text (entry s)) → (s : S) → Leaves text (many (list_turn last entry) s)
+  list_leaves last entry leaves s ts e us h n =
+      turns_keep (list_turn last entry) (λ _. NamesAt text) (λ s ts b t us k. turn_leaves text last entry s (leaves s) ts (b, t) us k) (suc (count ts)) s ts e us h n
 
   -- values
 
-  room_leaves : (d : Draft) (start : ValueStart) → Leaves (room_from d start)
+  room_leaves : (d : Draft) (start : ValueStart) → Leaves text (room_from d start)
   room_leaves d (Minus p) ts v us h n = subst (NamesAt text) (accepted (refuse_passed (values_full d) (TableFull p) _ h).1).1 n
   room_leaves d (Digits m) ts v us h n = subst (NamesAt text) (accepted h).1 n
 
-  listed_leaves : (first : ℕ) (d : Draft) → Leaves (listed_in first d)
+  listed_leaves : (first : ℕ) (d : Draft) → Leaves text (listed_in first d)
   listed_leaves first d ts e us h n =
       let start = then_passed (start_in d ts) h in
       let begun = parse_passed (value_start_in ts) start.is in
@@ -70,18 +54,9 @@ module _ (text : List ℕ) where
       let behind = room_leaves d begun.v begun.us start.v start.us begun.goes (placed_leaves text a_value_start ts begun.v begun.us begun.is n) in
       subst (NamesAt text) (accepted room.1).1 (value_from_leaves text start.v start.us v value.us value.is behind)
 
-  value_turn_leaves : (first : ℕ) (d : Draft) → Leaves (value_turn first d)
-  value_turn_leaves first d ts e us h n =
-      let one = then_passed (listed_in first d ts) h in
-      let next = parse_passed (another_in mk.OpenBrace one.us) one.goes in
-      subst (NamesAt text) (accepted next.goes).1 (another_leaves mk.OpenBrace one.us next.v next.us next.is (listed_leaves first d ts one.v one.us one.is n))
-
-  many_leaves : {S : Type 0} (turn : S → Tokens → Loaded (Bool × S)) → ((s : S) → Leaves (turn s)) → (s : S) → Leaves (many turn s)
-  many_leaves turn leaves s ts e us h n = turns_keep turn (λ _. NamesAt text) (λ s ts b t us k. leaves s ts (b, t) us k) (suc (count ts)) s ts e us h n
-
   -- the verdict
 
-  property_leaves : Leaves property_in
+  property_leaves : Leaves text property_in
   property_leaves ts e us h n =
       let property = parse_passed (expect_in (sy.Keyword kw.PassFail) ts) h in
       let equals = parse_passed (expect_in (sy.Mark mk.Equals) property.us) property.goes in
@@ -95,7 +70,7 @@ module _ (text : List ℕ) where
 
   -- the counters
 
-  mention_leaves : (from : ℕ) (d : Draft) → Leaves (mention_in text from d)
+  mention_leaves : (from : ℕ) (d : Draft) → Leaves text (mention_in text from d)
   mention_leaves from d ts e us h m =
       let n = parse_passed (name_in ts) h in
       let counter = have_passed (found (λ k. k.name) text d.counters n.v.0) (NotDeclared n.v.1) _ n.goes in
@@ -103,15 +78,9 @@ module _ (text : List ℕ) where
       let room = refuse_passed (leb 2048 (length d.mentions)) (TableFull n.v.1) _ once.1 in
       subst (NamesAt text) (accepted room.1).1 (want_leaves text _ _ ts n.v n.us n.is m)
 
-  mention_turn_leaves : (from : ℕ) (d : Draft) → Leaves (mention_turn text from d)
-  mention_turn_leaves from d ts e us h n =
-      let one = then_passed (mention_in text from d ts) h in
-      let next = parse_passed (another_in mk.Semicolon one.us) one.goes in
-      subst (NamesAt text) (accepted next.goes).1 (another_leaves mk.Semicolon one.us next.v next.us next.is (mention_leaves from d ts one.v one.us one.is n))
-
   -- the leaf bin
 
-  leaf_leaves : (d : Draft) → Leaves (leaf_in text d)
+  leaf_leaves : (d : Draft) → Leaves text (leaf_in text d)
   leaf_leaves d ts e us h n =
       let g = parse_passed (name_in ts) h in
       let group = have_passed (found (λ r. r.name) text d.groups g.v.0) (NotDeclared g.v.1) _ g.goes in
@@ -126,7 +95,7 @@ module _ (text : List ℕ) where
 
   -- where it leads
 
-  next_leaves : (f : Found) → Leaves (next_in f)
+  next_leaves : (f : Found) → Leaves text (next_in f)
   next_leaves f ts v us h m = by (is_keyword kw.GoTo f) h
     where
       by : (t : Bool) → cond t (go_to_in ts) (allow (is_keyword kw.Return f) f.place (return_in ts)) ≡ Ok (v, us) → NamesAt text us
@@ -140,7 +109,7 @@ module _ (text : List ℕ) where
           let end = parse_passed (expect_in (sy.Mark mk.Semicolon) value.us) value.goes in
           subst (NamesAt text) (accepted end.goes).1 (expect_leaves text (sy.Mark mk.Semicolon) value.us end.v end.us end.is (value_leaves text ts value.v value.us value.is m))
 
-  end_leaves : (d : Draft) (f : Found) → Leaves (end_in text d f)
+  end_leaves : (d : Draft) (f : Found) → Leaves text (end_in text d f)
   end_leaves d f ts e us h n =
       let leaf = then_passed (set_bin_in text d f ts) h in
       let next = then_passed (next_in leaf.v.1 leaf.us) leaf.goes in
@@ -160,9 +129,9 @@ module _ (text : List ℕ) where
       let verdict = then_passed (verdict_in f.v f.us) f.goes in
       let counters = then_passed (counters_in text s verdict.v.1 verdict.us) verdict.goes in
       let end = then_passed (end_in text counters.v.0 counters.v.1 counters.us) counters.goes in
-      let listed = many_leaves (value_turn first) (value_turn_leaves first) d ts s values.us values.is n in
+      let listed = list_leaves mk.OpenBrace (listed_in first) (listed_leaves first) d ts s values.us values.is n in
       let begun = want_leaves text _ _ values.us f.v f.us f.is listed in
       let marked = optional_leaves kw.Property _ property_in property_leaves f.v f.us verdict.v verdict.us verdict.is begun in
-      let named = optional_leaves kw.IncrementCounters s (mentions_in text (length s.mentions) s) (many_leaves (mention_turn text (length s.mentions)) (mention_turn_leaves (length s.mentions)) s) verdict.v.1 verdict.us counters.v counters.us counters.is marked in
+      let named = optional_leaves kw.IncrementCounters s (mentions_in text (length s.mentions) s) (list_leaves mk.Semicolon (mention_in text (length s.mentions)) (mention_leaves (length s.mentions)) s) verdict.v.1 verdict.us counters.v counters.us counters.is marked in
       let led = end_leaves counters.v.0 counters.v.1 counters.us end.v end.us end.is named in
       subst (NamesAt text) (accepted body.goes).1 (subst (NamesAt text) (accepted end.goes).1 led)

@@ -23,7 +23,8 @@ use Rattle.names.specs.Names.{found}
 use Rattle.refusals.specs.declared.fault.RuleFault.TheVariants.{NotDeclared, WrongKind, OutOfRange, Repeated, TableFull}
 use Rattle.refusals.specs.Steps.{Loaded, parse, then, refuse, allow, many}
 use Rattle.values.specs.Values.{value_from, value_in}
-use Rattle.refusals.specs.Shapes.{have, is_keyword, another_in, optional}
+use Rattle.productions.specs.Following.{list_turn}
+use Rattle.refusals.specs.Shapes.{have, is_keyword, optional}
 use Rattle.clauses.specs.Parts.{among}
 
 -- values
@@ -50,10 +51,7 @@ listed_in first d ts =
 
 -- value, and whether another follows
 abbrev pub value_turn : ℕ → Draft → Tokens → Loaded (Bool × Draft)
-value_turn first d ts =
-    then (listed_in first d ts) λ d ts.
-    parse (another_in mk.OpenBrace ts) λ more ts.
-    Ok ((more, d), ts)
+value_turn first = list_turn mk.OpenBrace (listed_in first)
 
 -- value (, value)* {
 abbrev pub values_in : ℕ → Draft → Tokens → Loaded Draft
@@ -91,10 +89,7 @@ mention_in text from d ts =
 
 -- name, and whether another follows
 abbrev pub mention_turn : List ℕ → ℕ → Draft → Tokens → Loaded (Bool × Draft)
-mention_turn text from d ts =
-    then (mention_in text from d ts) λ d ts.
-    parse (another_in mk.Semicolon ts) λ more ts.
-    Ok ((more, d), ts)
+mention_turn text from = list_turn mk.Semicolon (mention_in text from)
 
 -- name (, name)* ;
 abbrev pub mentions_in : List ℕ → ℕ → Draft → Tokens → Loaded Draft

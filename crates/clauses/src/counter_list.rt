@@ -1,92 +1,63 @@
 // The counters of a clause.
 
-ghost use Rattle.std.specs.Prelude.{◌≡◌, ℕ, ◌<◌, ◌≤◌, OnOk};
-ghost use Rattle.tokens.specs.Terminals.{count};
-ghost use Rattle.tokens.specs.Reading.{rest};
-ghost use Rattle.plan.specs.Drafts.{drafted};
-ghost use Rattle.refusals.specs.Steps.{ended};
-ghost use Rattle.clauses.specs.Clauses.{mention_in, mention_turn, mentions_in, counters_in};
+ghost use Rattle.std.specs.Prelude.{◌≡◌, length, drop};
+ghost use Rattle.productions.specs.Desks.{Reads, MayRead, rows};
+ghost use Rattle.clauses.specs.Parts.{among};
+ghost use Rattle.clauses.specs.Clauses.{mention_in, mentions_in, counters_in};
 
-use crate::listed::names_counter;
-use crate::symbols::{another, is_keyword};
 use grammar::{Found, any_symbol, name};
 use keywords::Keyword;
-use names::find;
-use plan::{MOST_MENTIONS, Tables};
+use productions::{Desk, Entry, declared, list};
 use refusals::{LoadFault, RuleFault};
 use text_bytes::Mark;
-use tokens::Reader;
 
-// The name of a counter that the clause does not name yet.
-fn mention<'a>(
-    r: &mut Reader<'a>,
-    text: &[u8],
-    t: &mut Tables,
-    from: usize,
-) -> Result<(), LoadFault>
-    ensures told { ended (λ _. drafted t.new) result (rest r.new) ≡ mention_in text.now from (drafted t.old) (rest r.old) }
-    ensures on { OnOk result (count (rest r.new) < count (rest r.old)) }
-    ensures kept { (drafted t.new).clauses ≡ (drafted t.old).clauses }
+// Whether the counter is one of those named from the row `from` on.
+fn names_counter(mentions: &[usize], from: usize, counter: usize) -> bool
+    ensures { result ≡ among (λ k. k) counter (drop from mentions.now) }
 {
-    let n = name(r)?;
-    let Some(counter) = find(t.counters.as_slice(), text, n.bytes) else {
-        return Err(LoadFault::Rule(RuleFault::NotDeclared(n.place)));
-    };
-    if names_counter(t.mentions.as_slice(), from, counter) {
-        return Err(LoadFault::Rule(RuleFault::Repeated(n.place)));
-    }
-    if t.mentions.len() >= MOST_MENTIONS {
-        return Err(LoadFault::Rule(RuleFault::TableFull(n.place)));
-    }
-    t.add_mention(counter);
-    Ok(())
+    mentions.iter().skip(from).any(|k| *k == counter)
 }
 
-fn mention_turn<'a>(
-    r: &mut Reader<'a>,
-    text: &[u8],
-    t: &mut Tables,
+// The name of a counter, named once by the clause whose mentions begin at the row `from`.
+#[derive(Clone, Copy)]
+struct Mention {
     from: usize,
-) -> Result<bool, LoadFault>
-    ensures told { ended (λ more. (more, drafted t.new)) result (rest r.new) ≡ mention_turn text.now from (drafted t.old) (rest r.old) }
-    ensures on { OnOk result (count (rest r.new) < count (rest r.old)) }
-    ensures kept { (drafted t.new).clauses ≡ (drafted t.old).clauses }
-{
-    mention(r, text, t, from)?;
-    Ok(another(r, Mark::Semicolon)?)
+}
+
+impl Entry for Mention {
+    ghost production = { λ entry text. mention_in text entry.from };
+
+    fn read<'a, 't>(&self, desk: &mut Desk<'a, 't>) -> Result<(), LoadFault> {
+        let word = name(&mut desk.reader)?;
+        let t = &mut *desk.tables;
+        let counter = declared(t.counters.as_slice(), desk.text, word)?;
+        if names_counter(t.mentions.as_slice(), self.from, counter) {
+            return Err(RuleFault::Repeated(word.place).into());
+        }
+        if t.mentions.is_full() {
+            return Err(RuleFault::TableFull(word.place).into());
+        }
+        t.mentions.add(counter);
+        Ok(())
+    }
 }
 
 // name (, name)* ;
-fn mentions<'a>(
-    r: &mut Reader<'a>,
-    text: &[u8],
-    t: &mut Tables,
-    from: usize,
-) -> Result<(), LoadFault>
-    ensures told { ended (λ _. drafted t.new) result (rest r.new) ≡ mentions_in text.now from (drafted t.old) (rest r.old) }
-    ensures on { OnOk result (count (rest r.new) < count (rest r.old)) }
-    ensures kept { (drafted t.new).clauses ≡ (drafted t.old).clauses }
+fn mentions<'a, 't>(desk: &mut Desk<'a, 't>) -> Result<(), LoadFault>
+    ensures { Reads (λ text d. mentions_in text (length d.mentions) d) (λ _. rows desk.new) desk.old desk.new result }
 {
-    while mention_turn(r, text, t, from)? {}
-    Ok(())
+    let t = &*desk.tables;
+    let from = t.mentions.len();
+    list(&Mention { from }, desk, Mark::Semicolon)
 }
 
 // [IncrementCounters name (, name)* ;] and the symbol behind it
-pub fn counters<'a>(
-    r: &mut Reader<'a>,
-    text: &[u8],
-    t: &mut Tables,
-    next: &mut Found,
-) -> Result<(), LoadFault>
-    ensures told { ended (λ _. (drafted t.new, next.new)) result (rest r.new) ≡ counters_in text.now (drafted t.old) next.old (rest r.old) }
-    ensures on { OnOk result (count (rest r.new) ≤ count (rest r.old)) }
-    ensures kept { (drafted t.new).clauses ≡ (drafted t.old).clauses }
+pub fn counters<'a, 't>(desk: &mut Desk<'a, 't>, next: Found) -> Result<Found, LoadFault>
+    ensures { MayRead (λ text d. counters_in text d next) (λ next. (rows desk.new, next)) desk.old desk.new result }
 {
-    if !is_keyword(*next, Keyword::IncrementCounters) {
-        return Ok(());
+    if !next.is_keyword(Keyword::IncrementCounters) {
+        return Ok(next);
     }
-    let from = t.mentions.len();
-    mentions(r, text, t, from)?;
-    *next = any_symbol(r)?;
-    Ok(())
+    mentions(desk)?;
+    Ok(any_symbol(&mut desk.reader)?)
 }

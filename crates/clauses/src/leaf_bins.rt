@@ -8,11 +8,10 @@ ghost use Rattle.plan.specs.Drafts.{drafted};
 ghost use Rattle.refusals.specs.Steps.{ended};
 ghost use Rattle.clauses.specs.Clauses.{leaf_of, leaf_in, set_bin_in};
 
-use crate::symbols::is_keyword;
 use grammar::{Found, Symbol, any_symbol, expect, name};
 use keywords::Keyword;
-use names::find;
 use plan::{Bin, Tables};
+use productions::declared;
 use refusals::{LoadFault, RuleFault};
 use text_bytes::Mark;
 use tokens::Reader;
@@ -21,11 +20,7 @@ use tokens::Reader;
 fn is_leaf_of(bins: &[Bin], bin: usize, group: usize) -> bool
     ensures { result ≡ leaf_of group (slice_get bins.now bin) }
 {
-    if bin >= bins.len() {
-        return false;
-    }
-    let b = bins[bin];
-    b.leaf && b.group == group
+    bins.get(bin).is_some_and(|b| b.leaf && b.group == group)
 }
 
 // name . name ;
@@ -34,16 +29,12 @@ fn leaf<'a>(r: &mut Reader<'a>, text: &[u8], t: &Tables) -> Result<Option<usize>
     ensures on { OnOk result (count (rest r.new) < count (rest r.old)) }
 {
     let g = name(r)?;
-    let Some(group) = find(t.groups.as_slice(), text, g.bytes) else {
-        return Err(LoadFault::Rule(RuleFault::NotDeclared(g.place)));
-    };
+    let group = declared(t.groups.as_slice(), text, g)?;
     expect(r, Symbol::Mark(Mark::FullStop))?;
     let b = name(r)?;
-    let Some(bin) = find(t.bins.as_slice(), text, b.bytes) else {
-        return Err(LoadFault::Rule(RuleFault::NotDeclared(b.place)));
-    };
+    let bin = declared(t.bins.as_slice(), text, b)?;
     if !is_leaf_of(t.bins.as_slice(), bin, group) {
-        return Err(LoadFault::Rule(RuleFault::WrongKind(b.place)));
+        return Err(RuleFault::WrongKind(b.place).into());
     }
     expect(r, Symbol::Mark(Mark::Semicolon))?;
     Ok(Some(bin))
@@ -54,15 +45,14 @@ pub fn set_bin<'a>(
     r: &mut Reader<'a>,
     text: &[u8],
     t: &Tables,
-    next: &mut Found,
-) -> Result<Option<usize>, LoadFault>
-    ensures told { ended (λ x. (x, next.new)) result (rest r.new) ≡ set_bin_in text.now (drafted t.now) next.old (rest r.old) }
+    next: Found,
+) -> Result<(Option<usize>, Found), LoadFault>
+    ensures told { ended (λ x. x) result (rest r.new) ≡ set_bin_in text.now (drafted t.now) next (rest r.old) }
     ensures on { OnOk result (count (rest r.new) ≤ count (rest r.old)) }
 {
-    if !is_keyword(*next, Keyword::SetBin) {
-        return Ok(None);
+    if !next.is_keyword(Keyword::SetBin) {
+        return Ok((None, next));
     }
     let leaf = leaf(r, text, t)?;
-    *next = any_symbol(r)?;
-    Ok(leaf)
+    Ok((leaf, any_symbol(r)?))
 }

@@ -4,9 +4,7 @@
 
 mod counter_list;
 mod leaf_bins;
-mod listed;
 mod production;
-mod symbols;
 mod value_list;
 mod verdicts;
 mod ways;

@@ -1,16 +1,18 @@
 // The values of a clause.
 
-ghost use Rattle.std.specs.Prelude.{◌≡◌, ℕ, ◌<◌, OnOk};
+ghost use Rattle.std.specs.Prelude.{◌≡◌, ℕ, ◌<◌, OnOk, drop};
 ghost use Rattle.tokens.specs.Terminals.{count};
 ghost use Rattle.tokens.specs.Reading.{rest};
 ghost use Rattle.plan.specs.Drafts.{drafted};
+ghost use Rattle.plan.specs.Meaning.{code_of};
 ghost use Rattle.refusals.specs.Steps.{ended};
-ghost use Rattle.clauses.specs.Clauses.{start_in, listed_in, value_turn, values_in};
+ghost use Rattle.productions.specs.Desks.{Reads, rows};
+ghost use Rattle.clauses.specs.Parts.{among};
+ghost use Rattle.clauses.specs.Clauses.{start_in, listed_in, values_in};
 
-use crate::listed::lists_value;
-use crate::symbols::another;
 use grammar::{ValueStart, value_start};
-use plan::{MOST_VALUES, Tables};
+use plan::{Tables, Value};
+use productions::{Desk, Entry, list};
 use refusals::{LoadFault, RuleFault};
 use text_bytes::Mark;
 use tokens::Reader;
@@ -21,48 +23,48 @@ fn start<'a>(r: &mut Reader<'a>, t: &Tables) -> Result<ValueStart, LoadFault>
     ensures told { ended (λ x. x) result (rest r.new) ≡ start_in (drafted t.now) (rest r.old) }
     ensures on { OnOk result (count (rest r.new) < count (rest r.old)) }
 {
-    let start = value_start(r)?;
-    if let ValueStart::Minus(place) = start {
-        if t.values.len() >= MOST_VALUES {
-            return Err(LoadFault::Rule(RuleFault::TableFull(place)));
+    match value_start(r)? {
+        ValueStart::Minus(place) if t.values.is_full() => {
+            Err(RuleFault::TableFull(place).into())
         }
+        start => Ok(start),
     }
-    Ok(start)
 }
 
-// A value that the item does not list yet.
-fn listed<'a>(r: &mut Reader<'a>, t: &mut Tables, first: usize) -> Result<(), LoadFault>
-    ensures told { ended (λ _. drafted t.new) result (rest r.new) ≡ listed_in first (drafted t.old) (rest r.old) }
-    ensures on { OnOk result (count (rest r.new) < count (rest r.old)) }
-    ensures kept { (drafted t.new).clauses ≡ (drafted t.old).clauses }
+// Whether the value is one of those from the row `first` on.
+fn lists_value(values: &[Value], first: usize, value: Value) -> bool
+    ensures { result ≡ among code_of value.code (drop first values.now) }
 {
-    let start = start(r, t)?;
-    let v = value_from(r, start)?;
-    if lists_value(t.values.as_slice(), first, v.value) {
-        return Err(LoadFault::Rule(RuleFault::Repeated(v.place)));
-    }
-    if t.values.len() >= MOST_VALUES {
-        return Err(LoadFault::Rule(RuleFault::TableFull(v.place)));
-    }
-    t.add_value(v.value);
-    Ok(())
+    values.iter().skip(first).any(|v| v.code == value.code)
 }
 
-fn value_turn<'a>(r: &mut Reader<'a>, t: &mut Tables, first: usize) -> Result<bool, LoadFault>
-    ensures told { ended (λ more. (more, drafted t.new)) result (rest r.new) ≡ value_turn first (drafted t.old) (rest r.old) }
-    ensures on { OnOk result (count (rest r.new) < count (rest r.old)) }
-    ensures kept { (drafted t.new).clauses ≡ (drafted t.old).clauses }
-{
-    listed(r, t, first)?;
-    Ok(another(r, Mark::OpenBrace)?)
+// A value, listed once by the item whose values begin at the row `first`.
+#[derive(Clone, Copy)]
+struct ListedValue {
+    first: usize,
+}
+
+impl Entry for ListedValue {
+    ghost production = { λ entry _. listed_in entry.first };
+
+    fn read<'a, 't>(&self, desk: &mut Desk<'a, 't>) -> Result<(), LoadFault> {
+        let t = &mut *desk.tables;
+        let start = start(&mut desk.reader, t)?;
+        let v = value_from(&mut desk.reader, start)?;
+        if lists_value(t.values.as_slice(), self.first, v.value) {
+            return Err(RuleFault::Repeated(v.place).into());
+        }
+        if t.values.is_full() {
+            return Err(RuleFault::TableFull(v.place).into());
+        }
+        t.values.add(v.value);
+        Ok(())
+    }
 }
 
 // value (, value)* {
-pub fn values<'a>(r: &mut Reader<'a>, t: &mut Tables, first: usize) -> Result<(), LoadFault>
-    ensures told { ended (λ _. drafted t.new) result (rest r.new) ≡ values_in first (drafted t.old) (rest r.old) }
-    ensures on { OnOk result (count (rest r.new) < count (rest r.old)) }
-    ensures kept { (drafted t.new).clauses ≡ (drafted t.old).clauses }
+pub fn values<'a, 't>(desk: &mut Desk<'a, 't>, first: usize) -> Result<(), LoadFault>
+    ensures { Reads (λ _. values_in first) (λ _. rows desk.new) desk.old desk.new result }
 {
-    while value_turn(r, t, first)? {}
-    Ok(())
+    list(&ListedValue { first }, desk, Mark::OpenBrace)
 }

@@ -6,7 +6,6 @@ ghost use Rattle.tokens.specs.Reading.{rest};
 ghost use Rattle.refusals.specs.Steps.{ended};
 ghost use Rattle.clauses.specs.Clauses.{go_to_in, return_in, next_in};
 
-use crate::symbols::is_keyword;
 use grammar::{Found, GrammarFault, Symbol, expect, name};
 use keywords::Keyword;
 use plan::Next;
@@ -36,15 +35,13 @@ fn returned<'a>(r: &mut Reader<'a>) -> Result<Next, LoadFault>
 }
 
 // GoTo name ; | Return value ;
-pub fn next<'a>(r: &mut Reader<'a>, f: Found) -> Result<Next, LoadFault>
-    ensures told { ended (λ x. x) result (rest r.new) ≡ next_in f (rest r.old) }
+pub fn next<'a>(r: &mut Reader<'a>, found: Found) -> Result<Next, LoadFault>
+    ensures told { ended (λ x. x) result (rest r.new) ≡ next_in found (rest r.old) }
     ensures on { OnOk result (count (rest r.new) < count (rest r.old)) }
 {
-    if is_keyword(f, Keyword::GoTo) {
-        return go_to(r);
+    match found.symbol {
+        Symbol::Keyword(Keyword::GoTo) => go_to(r),
+        Symbol::Keyword(Keyword::Return) => returned(r),
+        _ => Err(GrammarFault::NotAllowed(found.place).into()),
     }
-    if is_keyword(f, Keyword::Return) {
-        return returned(r);
-    }
-    Err(LoadFault::Grammar(GrammarFault::NotAllowed(f.place)))
 }
