@@ -43,182 +43,38 @@ blank = record { groups = []; bins = []; counters = []; tests = []; flows = []; 
 
 -- a row more in a table, and the other tables as they were
 abbrev pub with_group : Group → Draft → Draft
-with_group row d = record {
-  groups = d.groups ++ row ∷ [];
-  bins = d.bins;
-  counters = d.counters;
-  tests = d.tests;
-  flows = d.flows;
-  items = d.items;
-  clauses = d.clauses;
-  values = d.values;
-  mentions = d.mentions;
-  sort_group = d.sort_group;
-  main_flow = d.main_flow;
-}
+with_group row d = record d { groups = d.groups ++ row ∷ [] }
 
 abbrev pub with_bin : Bin → Draft → Draft
-with_bin row d = record {
-  groups = d.groups;
-  bins = d.bins ++ row ∷ [];
-  counters = d.counters;
-  tests = d.tests;
-  flows = d.flows;
-  items = d.items;
-  clauses = d.clauses;
-  values = d.values;
-  mentions = d.mentions;
-  sort_group = d.sort_group;
-  main_flow = d.main_flow;
-}
+with_bin row d = record d { bins = d.bins ++ row ∷ [] }
 
 abbrev pub with_counter : Counter → Draft → Draft
-with_counter row d = record {
-  groups = d.groups;
-  bins = d.bins;
-  counters = d.counters ++ row ∷ [];
-  tests = d.tests;
-  flows = d.flows;
-  items = d.items;
-  clauses = d.clauses;
-  values = d.values;
-  mentions = d.mentions;
-  sort_group = d.sort_group;
-  main_flow = d.main_flow;
-}
+with_counter row d = record d { counters = d.counters ++ row ∷ [] }
 
 abbrev pub with_test : Test → Draft → Draft
-with_test row d = record {
-  groups = d.groups;
-  bins = d.bins;
-  counters = d.counters;
-  tests = d.tests ++ row ∷ [];
-  flows = d.flows;
-  items = d.items;
-  clauses = d.clauses;
-  values = d.values;
-  mentions = d.mentions;
-  sort_group = d.sort_group;
-  main_flow = d.main_flow;
-}
+with_test row d = record d { tests = d.tests ++ row ∷ [] }
 
 abbrev pub with_flow : Flow → Draft → Draft
-with_flow row d = record {
-  groups = d.groups;
-  bins = d.bins;
-  counters = d.counters;
-  tests = d.tests;
-  flows = d.flows ++ row ∷ [];
-  items = d.items;
-  clauses = d.clauses;
-  values = d.values;
-  mentions = d.mentions;
-  sort_group = d.sort_group;
-  main_flow = d.main_flow;
-}
+with_flow row d = record d { flows = d.flows ++ row ∷ [] }
 
 abbrev pub with_item : Item → Draft → Draft
-with_item row d = record {
-  groups = d.groups;
-  bins = d.bins;
-  counters = d.counters;
-  tests = d.tests;
-  flows = d.flows;
-  items = d.items ++ row ∷ [];
-  clauses = d.clauses;
-  values = d.values;
-  mentions = d.mentions;
-  sort_group = d.sort_group;
-  main_flow = d.main_flow;
-}
+with_item row d = record d { items = d.items ++ row ∷ [] }
 
 abbrev pub with_clause : Clause → Draft → Draft
-with_clause row d = record {
-  groups = d.groups;
-  bins = d.bins;
-  counters = d.counters;
-  tests = d.tests;
-  flows = d.flows;
-  items = d.items;
-  clauses = d.clauses ++ row ∷ [];
-  values = d.values;
-  mentions = d.mentions;
-  sort_group = d.sort_group;
-  main_flow = d.main_flow;
-}
+with_clause row d = record d { clauses = d.clauses ++ row ∷ [] }
 
 abbrev pub with_value : Value → Draft → Draft
-with_value row d = record {
-  groups = d.groups;
-  bins = d.bins;
-  counters = d.counters;
-  tests = d.tests;
-  flows = d.flows;
-  items = d.items;
-  clauses = d.clauses;
-  values = d.values ++ row ∷ [];
-  mentions = d.mentions;
-  sort_group = d.sort_group;
-  main_flow = d.main_flow;
-}
+with_value row d = record d { values = d.values ++ row ∷ [] }
 
 abbrev pub with_mention : ℕ → Draft → Draft
-with_mention row d = record {
-  groups = d.groups;
-  bins = d.bins;
-  counters = d.counters;
-  tests = d.tests;
-  flows = d.flows;
-  items = d.items;
-  clauses = d.clauses;
-  values = d.values;
-  mentions = d.mentions ++ row ∷ [];
-  sort_group = d.sort_group;
-  main_flow = d.main_flow;
-}
+with_mention row d = record d { mentions = d.mentions ++ row ∷ [] }
 
 -- the clauses replaced
 abbrev pub with_clauses : List Clause → Draft → Draft
-with_clauses rows d = record {
-  groups = d.groups;
-  bins = d.bins;
-  counters = d.counters;
-  tests = d.tests;
-  flows = d.flows;
-  items = d.items;
-  clauses = rows;
-  values = d.values;
-  mentions = d.mentions;
-  sort_group = d.sort_group;
-  main_flow = d.main_flow;
-}
+with_clauses rows d = record d { clauses = rows }
 
 abbrev pub with_sort_group : ℕ → Draft → Draft
-with_sort_group n d = record {
-  groups = d.groups;
-  bins = d.bins;
-  counters = d.counters;
-  tests = d.tests;
-  flows = d.flows;
-  items = d.items;
-  clauses = d.clauses;
-  values = d.values;
-  mentions = d.mentions;
-  sort_group = n;
-  main_flow = d.main_flow;
-}
+with_sort_group n d = record d { sort_group = n }
 
 abbrev pub with_main_flow : ℕ → Draft → Draft
-with_main_flow n d = record {
-  groups = d.groups;
-  bins = d.bins;
-  counters = d.counters;
-  tests = d.tests;
-  flows = d.flows;
-  items = d.items;
-  clauses = d.clauses;
-  values = d.values;
-  mentions = d.mentions;
-  sort_group = d.sort_group;
-  main_flow = n;
-}
+with_main_flow n d = record d { main_flow = n }
