@@ -75,6 +75,7 @@ impl Plan {
         self.tables.tests.get(i)
     }
 
+    #[tactic(auto, using(crate::proofs::Readings::bin_meant_lem))]
     pub fn bin(&self, i: usize) -> Option<Bin>
         ensures held { result ≡ slice_get (draft_of self.now).bins i }
         ensures meant { option_map bin_of result ≡ slice_get (means self.now).bins i }
@@ -96,6 +97,7 @@ impl Plan {
         self.tables.flows.get(i)
     }
 
+    #[tactic(auto, using(crate::proofs::Readings::item_meant_lem))]
     pub fn item(&self, i: usize) -> Option<Item>
         ensures held { result ≡ slice_get (draft_of self.now).items i }
         ensures meant { option_map (item_of (draft_of self.now)) result ≡ slice_get (means self.now).items i }
@@ -133,6 +135,7 @@ impl Plan {
         Some(self.tables.main_flow)
     }
 
+    #[tactic(auto, using(crate::proofs::Readings::no_sort_group, crate::proofs::Readings::some_sort_group))]
     pub fn sort_group(&self) -> Option<usize>
         ensures { result ≡ (means self.now).sort_group }
     {

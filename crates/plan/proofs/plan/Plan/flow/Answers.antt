@@ -1,5 +1,4 @@
-use Rattle.std.proofs.Common.{◌≡◌, sym, ◌∙◌, rules}
-use Rattle.std.specs.List.{slice_get}
+use Rattle.std.proofs.Common.{sym, ◌∙◌}
 use Rattle.plan.specs.Plans.{draft_of}
 use Rattle.plan.proofs.Depths.{flow_depth}
 use Rattle.plan.proofs.Readings.{flow_meant}
@@ -8,7 +7,7 @@ use Rattle.plan.proofs.plan.Plan.flow.Goals as goal
 pub returns : goal.returns
 returns c =
     let p = c.args.self.now in
-    let held : c.get.result ≡ slice_get (draft_of p).flows c.args.i = search rules in
+    let held = c.get.ensures in
     record {
       held = held;
       meant = flow_meant (draft_of p) c.args.i c.get.result held;
