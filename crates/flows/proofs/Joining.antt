@@ -1,7 +1,10 @@
 -- Parts of a table that follow one another, joined again, and rows found in their part.
-use Rattle.std.proofs.Common.{◌≡◌, ℕ, zero, suc, ◌+◌, ◌-◌, ◌<◌, ◌≤◌, Bool, true, false, cond, eqb, List, [], ◌∷◌, ◌++◌, map, length, take, drop, Some, sym, refl, ap, ◌∙◌, subst, arith}
-use Rattle.std.proofs.lemmas.List.{take_all, drop-drop, length-take-le, length-drop}
-use Rattle.std.proofs.lemmas.Bool.{true≢false, and_parts, eqb-true}
+use Rattle.std.proofs.Common.{◌≡◌, ℕ, zero, suc, ◌+◌, ◌-◌, ◌<◌, ◌≤◌, Bool, true, false, cond, eqb, List, [], ◌∷◌, ◌++◌, map, take, drop, Some, sym, refl, ap, ◌∙◌, subst, arith}
+use Rattle.std.proofs.lemmas.List.{drop-drop}
+use Rattle.std.proofs.lemmas.Bool.{true≢false, eqb-true}
+use Rattle.std.proofs.Math.Seq.{take-add}
+use Rattle.std.proofs.lemmas.List.Sums.{AllPass-from_list_all}
+use Rattle.std.proofs.lemmas.Option.{get_or_from_slice_get, slice_get_within}
 use Rattle.std.specs.List.{between, flat_map, slice_get}
 use Rattle.plan.specs.declared.rows.Span.{Span}
 use Rattle.plan.specs.Meaning.{lists}
@@ -22,12 +25,6 @@ follow_to g from [] to i r f at = never_some r at
 follow_to g from (x ∷ rows) to zero r f at = subst (λ y. (g y).to ≤ to) (the_same at) (follow_on (g x).to (map g rows) to f.2)
 follow_to g from (x ∷ rows) to (suc i) r f at = follow_to g (g x).to rows to i r f.2 at
 
--- a front and what stands behind it
-take_split : {X : Type 0} (a b : ℕ) (xs : List X) → take a xs ++ take b (drop a xs) ≡ take (a + b) xs
-take_split zero b xs = let z : b ≡ 0 + b = omega arith in ap (λ n. take n xs) z
-take_split (suc a) b [] = take_all b [] (omega arith) ∙ sym (take_all (suc a + b) [] (omega arith))
-take_split (suc a) b (x ∷ xs) = let z : suc (a + b) ≡ suc a + b = omega arith in ap (λ l. x ∷ l) (take_split a b xs) ∙ ap (λ n. take n (x ∷ xs)) z
-
 -- two parts that follow one another are one
 pub between_joined : {X : Type 0} (from mid to : ℕ) (xs : List X) → from ≤ mid → mid ≤ to → between from mid xs ++ between mid to xs ≡ between from to xs
 between_joined from mid to xs a b =
@@ -35,16 +32,7 @@ between_joined from mid to xs a b =
     let whole : (mid - from) + (to - mid) ≡ to - from = omega (arith, a, b) in
     let behind : drop mid xs ≡ drop (mid - from) (drop from xs) = sym (ap (λ n. drop n xs) there) ∙ sym (drop-drop (mid - from) from xs) in
     ap (λ l. take (mid - from) (drop from xs) ++ take (to - mid) l) behind
-    ∙ (take_split (mid - from) (to - mid) (drop from xs) ∙ ap (λ n. take n (drop from xs)) whole)
-
-pub between_none : {X : Type 0} (from : ℕ) (xs : List X) → [] ≡ between from from xs
-between_none from xs = let z : 0 ≡ from - from = omega arith in ap (λ n. take n (drop from xs)) z
-
-pub between_all : {X : Type 0} (xs : List X) → between 0 (length xs) xs ≡ xs
-between_all xs = take_all (length xs - 0) xs (omega arith)
-
-pub between_length : {X : Type 0} (from to : ℕ) (xs : List X) → to ≤ length xs → length (between from to xs) ≡ to - from
-between_length from to xs l = length-take-le (to - from) (drop from xs) (omega (arith, length-drop from xs, l))
+    ∙ (sym (take-add (mid - from) (to - mid) (drop from xs)) ∙ ap (λ n. take n (drop from xs)) whole)
 
 -- a whole that is made of its parts, part by part
 module _ {R S Y : Type 0} (h : R → S) (f : S → List Y) (span : R → Span) (whole : ℕ → ℕ → List Y) (is : (r : R) → f (h r) ≡ whole (span r).from (span r).to) (none : (n : ℕ) → [] ≡ whole n n) (both : (a b c : ℕ) → a ≤ b → b ≤ c → whole a b ++ whole b c ≡ whole a c) where
@@ -70,9 +58,7 @@ between_nth from to xs i x a b e =
 
 -- what holds of every row holds of each
 pub every_at : {X : Type 0} (p : X → Bool) (xs : List X) (i : ℕ) (x : X) → every p xs ≡ true → slice_get xs i ≡ Some x → p x ≡ true
-every_at p [] i x e at = never_some x at
-every_at p (y ∷ xs) zero x e at = sym (ap p (the_same at)) ∙ (and_parts (p y) (every p xs) e).0
-every_at p (y ∷ xs) (suc i) x e at = every_at p xs i x (and_parts (p y) (every p xs) e).1 at
+every_at p xs i x e at = subst (λ y. p y ≡ true) (get_or_from_slice_get xs i x x at) (AllPass-from_list_all p xs e i x (slice_get_within xs i x at))
 
 -- a value that is listed stands in the list
 pub lists_among : (v : ℕ) (xs : List ℕ) → lists v xs ≡ true → Among v xs

@@ -1,49 +1,38 @@
 -- What the clauses of an item, and the items of a flow, leave alone, and what they add.
-use Rattle.std.proofs.Common.{◌≡◌, ℕ, ◌<◌, ◌≤◌, max, Bool, true, false, cond, not, leb, List, [], ◌∷◌, ◌++◌, length, drop, is_some, Some, None, Ok, Option, sym, refl, ap, ◌∙◌, subst, append_assoc, append-nil, arith, length-append}
+use Rattle.std.proofs.Common.{◌≡◌, ℕ, ◌<◌, ◌≤◌, max, not, leb, List, [], ◌∷◌, ◌++◌, length, drop, is_some, Some, None, Ok, Option, sym, refl, ap, ◌∙◌, subst, append_assoc, append-nil, arith, length-append}
 use Rattle.std.proofs.lemmas.List.{drop_at}
 use Rattle.std.proofs.lemmas.Bool.{leb-false}
 use Rattle.std.specs.List.{slice_get}
 use Rattle.keywords.specs.declared.Keyword.TheVariants as kw
-use Rattle.text_bytes.specs.declared.kinds.Mark.TheVariants as mk
 use Rattle.tokens.specs.Terminals.{Tokens}
 use Rattle.grammar.specs.declared.symbols.Found.{Found}
-use Rattle.grammar.specs.declared.symbols.Symbol.TheVariants as sy
-use Rattle.grammar.specs.Readers.{Spot, name_in, symbol_in, expect_in}
+use Rattle.grammar.specs.Readers.{Spot, name_in}
 use Rattle.plan.specs.declared.rows.Flow.{Flow}
 use Rattle.plan.specs.declared.rows.Item.{Item}
 use Rattle.plan.specs.declared.rows.Runs.{Runs}
 use Rattle.plan.specs.Drafts.{Draft, with_item}
 use Rattle.names.specs.Names.{found}
 use Rattle.refusals.specs.declared.fault.RuleFault.TheVariants.{DeclaredBefore, TableFull, ReturnNotListed, TooDeep}
-use Rattle.refusals.specs.Steps.{Loaded, parse, then, turns, many}
-use Rattle.refusals.specs.Shapes.{is_keyword, is_mark, row_turn}
-use Rattle.refusals.proofs.Passing.{no_fault, accepted, parse_passed, then_passed, refuse_passed, allow_passed, many_keeps, turn_keeps}
+use Rattle.refusals.specs.Shapes.{is_keyword}
+use Rattle.refusals.proofs.Passing.{no_fault, accepted, parse_passed, then_passed, refuse_passed, rows_keep}
 use Rattle.clauses.specs.Clauses.{clause_in}
-use Rattle.clauses.proofs.Beside.{Beside, beside, beside_then, clause_beside}
+use Rattle.clauses.proofs.Beside.{Beside, beside_then}
+use Rattle.clauses.proofs.Kept.{clause_beside}
+use Rattle.flows.proofs.Braces.{braced_passed}
 use Rattle.flows.specs.Checks.{item_name, depth_in, depth_of, deepest}
-use Rattle.flows.specs.Flows.{clause_turn, clauses_in, flow_run, test_run, runs_in, run_listed, item_in, item_turn, items_in}
+use Rattle.flows.specs.Flows.{clauses_in, flow_run, test_run, runs_in, run_listed, item_in, items_in}
 
 -- the clauses of an item leave alone what is not theirs
 pub clauses_beside : (text : List ℕ) (d : Draft) (ts : Tokens) (e : Draft) (us : Tokens) → clauses_in text d ts ≡ Ok (e, us) → Beside d e
 clauses_beside text d ts e us h =
-    let open_brace = parse_passed (expect_in (sy.Mark mk.OpenBrace) ts) h in
-    let f = parse_passed (symbol_in open_brace.us) open_brace.goes in
-    let begun = allow_passed (is_keyword kw.Result f.v) f.v.place _ f.goes in
-    let all = then_passed (many (clause_turn text (length d.values)) (d, f.v) f.us) begun.1 in
-    let ended = allow_passed (is_mark mk.CloseBrace all.v.1) all.v.1.place _ all.goes in
-    subst (Beside d) (accepted ended.1).0
-    (many_keeps (clause_turn text (length d.values)) (λ s. Beside d s.0)
-    (λ s ts more t us k p. turn_keeps (is_keyword kw.Result) (λ f. clause_in text f.place (length d.values)) (λ s _. Beside d s) (λ s ts f us e p. p) (λ f s ts t us k p. beside_then p (clause_beside text f.place (length d.values) s ts t us k)) s ts more t us k p)
-    (d, f.v) f.us all.v all.us all.is (beside d))
-
--- a repetition that begins with a row has read that row
-pub first_row : {S : Type 0} (begins : Found → Bool) (row : Found → S → Tokens → Loaded S) (s : S × Found) (ts : Tokens) (t : S × Found) (us : Tokens) → begins s.1 ≡ true → many (row_turn begins row) s ts ≡ Ok (t, us) → (x : S) × (vs : Tokens) × (row s.1 s.0 ts ≡ Ok (x, vs))
-unfolding turns
-first_row {S} begins row s ts t us b h =
-    let turn = then_passed (row_turn begins row s ts) h in
-    let begun = ap (λ b. cond b (then {Y = Bool × (S × Found)} (row s.1 s.0 ts) λ x ts. parse (symbol_in ts) λ f ts. Ok ((true, (x, f)), ts)) (Ok ((false, s), ts))) (sym b) ∙ turn.is in
-    let one = then_passed (row s.1 s.0 ts) begun in
-    (one.v, one.us, one.is)
+    let row = λ (f : Found). clause_in text f.place (length d.values) in
+    let b = braced_passed (is_keyword kw.Result) row d ts e us h in
+    rows_keep (is_keyword kw.Result) row (λ s _. Beside d s)
+    (λ s ts f us k p. p)
+    (λ f s ts t us k p. beside_then p (clause_beside text f.place (length d.values) s ts t us k))
+    d b.first b.behind (e, b.last) us
+    (λ x vs k. clause_beside text b.first.place (length d.values) d b.behind x vs k)
+    b.begun b.rows
 
 -- a flow that is run is not too deep
 runs_shallow : (text : List ℕ) (d : Draft) (ts : Tokens) (runs : Runs) (us : Tokens) → runs_in text d ts ≡ Ok (runs, us) → depth_of d.flows runs < 8
@@ -96,19 +85,16 @@ item_added text first place d s ts t us h p =
 -- what is known of the items where the flow is closed
 pub items_added : (text : List ℕ) (d : Draft) (ts : Tokens) (e : Draft) (us : Tokens) → items_in text d ts ≡ Ok (e, us) → Added d e
 items_added text d ts e us h =
-    let first = length d.items in
-    let open_brace = parse_passed (expect_in (sy.Mark mk.OpenBrace) ts) h in
-    let f = parse_passed (symbol_in open_brace.us) open_brace.goes in
-    let begun = allow_passed (is_keyword kw.FlowItem f.v) f.v.place _ f.goes in
-    let all = then_passed (many (item_turn text first) (d, f.v) f.us) begun.1 in
-    let ended = allow_passed (is_mark mk.CloseBrace all.v.1) all.v.1.place _ all.goes in
-    let one = first_row (is_keyword kw.FlowItem) (λ f. item_in text first f.place) (d, f.v) f.us all.v all.us begun.0 all.is in
-    let room = refuse_passed (leb 512 first) (TableFull f.v.place) _ one.2 in
-    subst (Added d) (accepted ended.1).0
-    (many_keeps (item_turn text first) (λ s. Added d s.0)
-    (turn_keeps (is_keyword kw.FlowItem) (λ f. item_in text first f.place) (λ s _. Added d s) (λ s ts f us e p. p) (λ f. item_added text first f.place d))
-    (d, f.v) f.us all.v all.us all.is
-    (record { flows = refl; more = []; items = sym (append-nil d.items); shallow = omega arith; few = omega (arith, leb-false 512 first room.0) }))
+    let row = λ (f : Found). item_in text (length d.items) f.place in
+    let b = braced_passed (is_keyword kw.FlowItem) row d ts e us h in
+    rows_keep (is_keyword kw.FlowItem) row (λ s _. Added d s)
+    (λ s ts f us k p. p)
+    (λ f. item_added text (length d.items) f.place d)
+    d b.first b.behind (e, b.last) us
+    (λ x vs k.
+    let room = refuse_passed (leb 512 (length d.items)) (TableFull b.first.place) _ k in
+    item_added text (length d.items) b.first.place d d b.behind x vs k (record { flows = refl; more = []; items = sym (append-nil d.items); shallow = omega arith; few = omega (arith, leb-false 512 (length d.items) room.0) }))
+    b.begun b.rows
 
 -- the rows from the first item of the flow on are its items
 pub items_behind : {d e : Draft} (p : Added d e) → drop (length d.items) e.items ≡ p.more

@@ -4,10 +4,9 @@ use Rattle.std.proofs.lemmas.List.{drop_at, drop_all, drop-append-le, drop-map, 
 use Rattle.std.proofs.lemmas.Bool.{not-false, leb-false}
 use Rattle.std.specs.List.{between, slice_get}
 use Rattle.keywords.specs.declared.Keyword.TheVariants as kw
-use Rattle.text_bytes.specs.declared.kinds.Mark.TheVariants as mk
 use Rattle.tokens.specs.Terminals.{Tokens}
-use Rattle.grammar.specs.declared.symbols.Symbol.TheVariants as sy
-use Rattle.grammar.specs.Readers.{Spot, name_in, symbol_in, expect_in}
+use Rattle.grammar.specs.declared.symbols.Found.{Found}
+use Rattle.grammar.specs.Readers.{Spot, name_in}
 use Rattle.plan.specs.declared.rows.Bin.{Bin}
 use Rattle.plan.specs.declared.rows.Clause.{Clause}
 use Rattle.plan.specs.declared.rows.Flow.{Flow}
@@ -24,15 +23,15 @@ use Rattle.plan.proofs.Spans.{never_some}
 use Rattle.names.specs.Names.{found}
 use Rattle.names.proofs.Found.{found_below, none_found}
 use Rattle.refusals.specs.declared.fault.RuleFault.TheVariants.{DeclaredBefore, TableFull, ReturnNotListed, TooDeep}
-use Rattle.refusals.specs.Steps.{many}
-use Rattle.refusals.specs.Shapes.{is_keyword, is_mark}
-use Rattle.refusals.proofs.Passing.{no_fault, accepted, parse_passed, then_passed, refuse_passed, allow_passed, rows_keep}
-use Rattle.refusals.proofs.Spelled.{NamesAt, want_leaves, expect_leaves, name_at}
+use Rattle.refusals.specs.Shapes.{is_keyword}
+use Rattle.refusals.proofs.Passing.{no_fault, accepted, parse_passed, then_passed, refuse_passed, rows_keep}
+use Rattle.refusals.proofs.Spelled.{NamesAt, want_leaves, name_at}
 use Rattle.clauses.specs.Clauses.{clause_in}
 use Rattle.clauses.proofs.Kept.{grown_length, LeafSet, ReturnsFit, ClauseAdded, clause_added}
 use Rattle.clauses.proofs.Leaving.{clause_leaves}
 use Rattle.flows.specs.Checks.{item_name, items_listed, flow_items, depth_in}
-use Rattle.flows.specs.Flows.{name_of, span, clause_turn, clauses_in, flow_run, test_run, runs_in, run_listed, item_in, item_turn, items_in}
+use Rattle.flows.specs.Flows.{name_of, span, clauses_in, flow_run, test_run, runs_in, run_listed, item_in, items_in}
+use Rattle.flows.proofs.Braces.{braced_passed, names_inside}
 use Rattle.flows.proofs.Following.{Follow, follow_then, follow_one, nth_either, between_append, span_added, flow_items_before, flow_item, listed_before}
 use Rattle.flows.proofs.Keeping.{clauses_beside}
 
@@ -223,20 +222,14 @@ module _ (text : List ℕ) where
   -- the clauses of an item
   pub clauses_kept_lem : (d : Draft) (ts : Tokens) (e : Draft) (us : Tokens) → clauses_in text d ts ≡ Ok (e, us) → NamesAt text ts → InItem d e us
   clauses_kept_lem d ts e us h n =
-      let open_brace = parse_passed (expect_in (sy.Mark mk.OpenBrace) ts) h in
-      let f = parse_passed (symbol_in open_brace.us) open_brace.goes in
-      let begun = allow_passed (is_keyword kw.Result f.v) f.v.place _ f.goes in
-      let all = then_passed (many (clause_turn text (length d.values)) (d, f.v) f.us) begun.1 in
-      let ended = allow_passed (is_mark mk.CloseBrace all.v.1) all.v.1.place _ all.goes in
-      let made = accepted ended.1 in
-      let names = want_leaves text _ _ open_brace.us f.v f.us f.is (expect_leaves text (sy.Mark mk.OpenBrace) ts open_brace.v open_brace.us open_brace.is n) in
-      let kept = rows_keep (is_keyword kw.Result) (λ f. clause_in text f.place (length d.values)) (InItem d)
+      let row = λ (f : Found). clause_in text f.place (length d.values) in
+      let b = braced_passed (is_keyword kw.Result) row d ts e us h in
+      rows_keep (is_keyword kw.Result) row (InItem d)
       (λ s ts f us k p. (p.0, p.1, p.2, want_leaves text _ _ ts f us k p.3))
       (λ f s ts t us k p. clause_in_item f.place d s ts t us k p.0 p.2 p.3)
-      d f.v f.us all.v all.us
-      (λ x vs k. clause_in_item f.v.place d d f.us x vs k (rows_none d) (none_once d) names)
-      begun.0 all.is in
-      subst (λ x. InItem d x us) made.0 (subst (InItem d all.v.0) made.1 kept)
+      d b.first b.behind (e, b.last) us
+      (λ x vs k. clause_in_item b.first.place d d b.behind x vs k (rows_none d) (none_once d) (names_inside text b n))
+      b.begun b.rows
 
   -- what an item runs is known
   runs_known : (d : Draft) (ts : Tokens) (runs : Runs) (us : Tokens) → runs_in text d ts ≡ Ok (runs, us) → NamesAt text ts → Known d runs × NamesAt text us
@@ -420,18 +413,11 @@ module _ (text : List ℕ) (d : Draft) (held : Held d) where
 
   pub items_kept_lem : (ts : Tokens) (e : Draft) (us : Tokens) → items_in text d ts ≡ Ok (e, us) → NamesAt text ts → InFlow e us
   items_kept_lem ts e us h n =
-      let first = length d.items in
-      let open_brace = parse_passed (expect_in (sy.Mark mk.OpenBrace) ts) h in
-      let f = parse_passed (symbol_in open_brace.us) open_brace.goes in
-      let begun = allow_passed (is_keyword kw.FlowItem f.v) f.v.place _ f.goes in
-      let all = then_passed (many (item_turn text first) (d, f.v) f.us) begun.1 in
-      let ended = allow_passed (is_mark mk.CloseBrace all.v.1) all.v.1.place _ all.goes in
-      let made = accepted ended.1 in
-      let names = want_leaves text _ _ open_brace.us f.v f.us f.is (expect_leaves text (sy.Mark mk.OpenBrace) ts open_brace.v open_brace.us open_brace.is n) in
-      let kept = rows_keep (is_keyword kw.FlowItem) (λ f. item_in text first f.place) InFlow
+      let row = λ (f : Found). item_in text (length d.items) f.place in
+      let b = braced_passed (is_keyword kw.FlowItem) row d ts e us h in
+      rows_keep (is_keyword kw.FlowItem) row InFlow
       (λ s ts f us k p. (p.0, p.1, want_leaves text _ _ ts f us k p.2))
       (λ f s ts t us k p. item_in_flow f.place s ts t us k p.0 p.2)
-      d f.v f.us all.v all.us
-      (λ x vs k. item_in_flow f.v.place d f.us x vs k (items_none text d) names)
-      begun.0 all.is in
-      subst (λ x. InFlow x us) made.0 (subst (InFlow all.v.0) made.1 kept)
+      d b.first b.behind (e, b.last) us
+      (λ x vs k. item_in_flow b.first.place d b.behind x vs k (items_none text d) (names_inside text b n))
+      b.begun b.rows

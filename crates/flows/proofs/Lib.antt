@@ -1,3 +1,4 @@
+pub mod Braces
 pub mod Keeping
 pub mod Resolving
 pub mod Rows

@@ -2,6 +2,8 @@
 use Rattle.std.proofs.Common.{◌≡◌, ℕ, ◌+◌, ◌-◌, ◌<◌, ◌≤◌, true, List, [], ◌∷◌, map, length, Some, None, Option, sym, refl, ap, ◌∙◌, subst, arith}
 use lib.ListN.{length-map}
 use Rattle.std.proofs.lemmas.List.{map-append}
+use Rattle.std.proofs.lemmas.List.Edits.{between_none, length-between}
+use Rattle.std.proofs.lemmas.Slice.{between_to_end}
 use Rattle.std.specs.List.{between, flat_map, slice_get}
 use Rattle.plan.specs.declared.rows.Clause.{Clause}
 use Rattle.plan.specs.declared.rows.Flow.{Flow}
@@ -14,7 +16,7 @@ use Rattle.plan.proofs.Spans.{never_some, nth_between, nth_between_lt}
 use Rattle.flows.specs.Checks.{items_listed, clauses_listed, return_listed, flow_items}
 use Rattle.flows.proofs.Following.{Follow}
 use Rattle.flows.proofs.Kept.{ClauseKept, ItemKept, Known, value_spans, between_map}
-use Rattle.flows.proofs.Joining.{follow_to, between_joined, between_none, between_all, between_length, joined_whole, between_nth, every_at, lists_among}
+use Rattle.flows.proofs.Joining.{follow_to, between_joined, joined_whole, between_nth, every_at, lists_among}
 use Rattle.flows.proofs.All.{Inside, FlowsKept}
 
 -- the flows' items follow one another
@@ -67,7 +69,7 @@ module _ (d : Draft) where
   values_joined from cs to f =
       joined_whole (clause_of d) (λ c. c.values) (λ c. c.values) (λ a b. map code_of (between a b d.values))
       (λ c. refl)
-      (λ n. ap (map code_of) (between_none n d.values))
+      (λ n. ap (map code_of) (sym (between_none d.values n)))
       (λ a b c l m. sym (map-append code_of (between a b d.values) (between b c d.values)) ∙ ap (map code_of) (between_joined a b c d.values l m))
       from cs to f
 
@@ -159,7 +161,7 @@ module _ (d : Draft) where
         let r = item_row i it at in
         let s = r.row.clauses in
         let p = k.items i r.row r.at in
-        let many : length (item_of d r.row).clauses ≡ s.to - s.from = length-map (rows_of s d.clauses) (clause_of d) ∙ between_length s.from s.to d.clauses (omega (arith, p.within, length-map d.clauses (λ c. c.values))) in
+        let many : length (item_of d r.row).clauses ≡ s.to - s.from = length-map (rows_of s d.clauses) (clause_of d) ∙ length-between d.clauses s.from s.to (omega (arith, p.within, length-map d.clauses (λ c. c.values))) in
         subst (λ x. 0 < length x.clauses) r.is (omega (arith, many, p.has_clause))
 
     pub clause_has_value_lem : ClauseHasValue (meaning d)
@@ -167,7 +169,7 @@ module _ (d : Draft) where
         let r = clause_row i c has in
         let s = r.clause.values in
         let held = follow_to (λ c. c.values) 0 d.clauses (length d.values) r.j r.clause k.values_follow r.stands in
-        let many : length (clause_of d r.clause).values ≡ s.to - s.from = length-map (rows_of s d.values) code_of ∙ between_length s.from s.to d.values held in
+        let many : length (clause_of d r.clause).values ≡ s.to - s.from = length-map (rows_of s d.values) code_of ∙ length-between d.values s.from s.to held in
         subst (λ x. 0 < length x.values) r.is (omega (arith, many, (clause_kept i c r).has_value))
 
     pub items_in_flows_lem : ItemsInFlows (meaning d)
@@ -188,17 +190,17 @@ module _ (d : Draft) where
     all_clauses_lem =
         sym (joined_whole (item_of d) (λ it. it.clauses) (λ it. it.clauses) (λ a b. map (clause_of d) (between a b d.clauses))
         (λ it. refl)
-        (λ n. ap (map (clause_of d)) (between_none n d.clauses))
+        (λ n. ap (map (clause_of d)) (sym (between_none d.clauses n)))
         (λ a b c l m. sym (map-append (clause_of d) (between a b d.clauses) (between b c d.clauses)) ∙ ap (map (clause_of d)) (between_joined a b c d.clauses l m))
         0 d.items (length d.clauses) k.clauses_follow
-        ∙ ap (map (clause_of d)) (between_all d.clauses))
+        ∙ ap (map (clause_of d)) (between_to_end d.clauses 0 (length d.clauses) (omega arith)))
 
     pub clauses_fit : length (all_clauses (meaning d)) ≤ 1024
     clauses_fit = subst (λ l. length l ≤ 1024) all_clauses_lem (omega (arith, length-map d.clauses (clause_of d), k.clauses_few))
 
     pub values_few_lem : length (all_values (all_clauses (meaning d))) ≤ 2048
     values_few_lem =
-        let all : all_values (map (clause_of d) d.clauses) ≡ map code_of d.values = values_joined 0 d.clauses (length d.values) k.values_follow ∙ ap (map code_of) (between_all d.values) in
+        let all : all_values (map (clause_of d) d.clauses) ≡ map code_of d.values = values_joined 0 d.clauses (length d.values) k.values_follow ∙ ap (map code_of) (between_to_end d.values 0 (length d.values) (omega arith)) in
         subst (λ l. length (all_values l) ≤ 2048) all_clauses_lem (omega (arith, ap length all, length-map d.values code_of, k.values_few))
 
     pub mentions_few_lem : length (flat_map (λ c. c.counters) (all_clauses (meaning d))) ≤ 2048
@@ -206,10 +208,10 @@ module _ (d : Draft) where
         let all : flat_map (λ c. c.counters) (map (clause_of d) d.clauses) ≡ d.mentions =
         joined_whole (clause_of d) (λ c. c.counters) (λ c. c.counters) (λ a b. between a b d.mentions)
         (λ c. refl)
-        (λ n. between_none n d.mentions)
+        (λ n. sym (between_none d.mentions n))
         (λ a b c l m. between_joined a b c d.mentions l m)
         0 d.clauses (length d.mentions) k.counters_follow
-        ∙ between_all d.mentions in
+        ∙ between_to_end d.mentions 0 (length d.mentions) (omega arith) in
         subst (λ l. length (flat_map (λ c. c.counters) l) ≤ 2048) all_clauses_lem (omega (arith, ap length all, k.mentions_few))
 
     -- whatever a flow returns is listed where it is run

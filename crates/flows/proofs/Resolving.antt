@@ -5,7 +5,7 @@ use Rattle.plan.specs.declared.rows.Clause.{Clause}
 use Rattle.plan.specs.declared.rows.Item.{Item}
 use Rattle.plan.specs.declared.rows.Next.{Next}
 use Rattle.refusals.specs.declared.fault.LoadFault.{LoadFault}
-use Rattle.flows.specs.Checks.{next_resolved, leading_to, clause_resolved, onto, and_then, clauses_resolved, behind}
+use Rattle.flows.specs.Checks.{clause_resolved, onto, and_then, clauses_resolved, behind}
 
 abbrev Answer : Type 0
 Answer = Result (List Clause) LoadFault
@@ -16,7 +16,7 @@ behind_onto done c (Err e) = refl
 
 -- the clause, leading elsewhere
 abbrev pub led : Clause → Next → Clause
-led c n = record { values = c.values; verdict = c.verdict; counters = c.counters; leaf = c.leaf; next = n }
+led c n = record c { next = n }
 
 module _ (text : List ℕ) (first : ℕ) (items : List Item) where
   abbrev all : List Clause → Answer
@@ -32,27 +32,24 @@ module _ (text : List ℕ) (first : ℕ) (items : List Item) where
   resolving was from = record { left = refl; as_many = refl; so_far = refl }
 
   module _ (was are : List Clause) (i : ℕ) (whole : Answer) (h : Resolving was are i whole) where
-    module _ (x : Clause) (is : x ≡ get_or are i x) (l : i < length are) where
-      one : (n : Result Next LoadFault) → next_resolved text first items x.next ≡ n → all (drop i was) ≡ and_then (leading_to x n) (all (drop (i + 1) was))
-      one n e =
+    module _ (x : Clause) (l : i < length are) where
+      one : (r : Result Clause LoadFault) → r ≡ clause_resolved text first items (get_or are i x) → all (drop i was) ≡ and_then r (all (drop (i + 1) was))
+      one r e =
           ap all (sym h.left)
           ∙ (at_drop_more all are i x l
-          ∙ (ap (λ y. and_then (clause_resolved text first items y) (all (drop (i + 1) are))) (sym is)
-          ∙ (ap (λ y. and_then (leading_to x y) (all (drop (i + 1) are))) e
-          ∙ ap (λ y. and_then (leading_to x n) (all y)) (sym (drop-drop 1 i are) ∙ (ap (drop 1) h.left ∙ drop-drop 1 i was)))))
+          ∙ (ap (λ y. and_then y (all (drop (i + 1) are))) (sym e)
+          ∙ ap (λ y. and_then r (all y)) (sym (drop-drop 1 i are) ∙ (ap (drop 1) h.left ∙ drop-drop 1 i was))))
 
       -- one more is resolved
-      pub resolved_one : (n : Next) → next_resolved text first items x.next ≡ Ok n → Resolving was (set are i (led x n)) (i + 1) whole
-      resolved_one n e =
-          let c = led x n in
-          record {
-            left = drop-set-lt (i + 1) are i c (omega arith) ∙ (sym (drop-drop 1 i are) ∙ (ap (drop 1) h.left ∙ drop-drop 1 i was));
-            as_many = length-set are i c ∙ h.as_many;
-            so_far = ap (λ y. behind y (all (drop (i + 1) was))) (take_more_set are i c l) ∙ (sym (behind_onto (take i are) c (all (drop (i + 1) was))) ∙ (ap (behind (take i are)) (sym (one (Ok n) e)) ∙ h.so_far));
-          }
+      pub resolved_one : (c : Clause) → Ok c ≡ clause_resolved text first items (get_or are i x) → Resolving was (set are i c) (i + 1) whole
+      resolved_one c e = record {
+        left = drop-set-lt (i + 1) are i c (omega arith) ∙ (sym (drop-drop 1 i are) ∙ (ap (drop 1) h.left ∙ drop-drop 1 i was));
+        as_many = length-set are i c ∙ h.as_many;
+        so_far = ap (λ y. behind y (all (drop (i + 1) was))) (take_more_set are i c l) ∙ (sym (behind_onto (take i are) c (all (drop (i + 1) was))) ∙ (ap (behind (take i are)) (sym (one (Ok c) e)) ∙ h.so_far));
+      }
 
       -- the first that leads nowhere
-      pub resolved_none : (e : LoadFault) → next_resolved text first items x.next ≡ Err e → Err e ≡ whole
+      pub resolved_none : (e : LoadFault) → Err e ≡ clause_resolved text first items (get_or are i x) → Err e ≡ whole
       resolved_none f e = ap (behind (take i are)) (sym (one (Err f) e)) ∙ h.so_far
 
     pub resolved_all : length are ≤ i → Ok are ≡ whole

@@ -1,6 +1,6 @@
 -- What is checked of a whole item and a whole flow: returned values, depth, and the targets of GoTo.
-use Rattle.std.specs.Prelude.{ℕ, ◌+◌, max, Bool, true, ◌&&◌, List, [], ◌∷◌, ◌++◌, map, take, drop, Some, None, Ok, Err, Option, Result}
-use Rattle.std.specs.List.{prefix_len, slice_get}
+use Rattle.std.specs.Prelude.{ℕ, ◌+◌, max, Bool, true, List, [], ◌∷◌, ◌++◌, map, take, drop, Some, None, Ok, Err, Option, Result}
+use Rattle.std.specs.List.{list_all, prefix_len, slice_get}
 use Rattle.text_bytes.specs.declared.kinds.ByteKind.TheVariants.{OfName}
 use Rattle.text_bytes.specs.Bytes.{of_kind}
 use Rattle.plan.specs.declared.rows.Clause.{Clause}
@@ -20,8 +20,7 @@ use Rattle.refusals.specs.declared.fault.RuleFault.TheVariants.{NotDeclared}
 
 -- the test holds of every row
 abbrev pub every : {X : Type 0} → (X → Bool) → List X → Bool
-every p [] = true
-every p (x ∷ xs) = p x && every p xs
+every p xs = list_all p xs
 
 -- the value is listed, where a clause returns one
 abbrev pub return_listed : List Value → Next → Bool
@@ -73,7 +72,7 @@ next_resolved text first items (GoTo p) = target first (found item_name text ite
 next_resolved text first items (Return v) = Ok (Return v)
 
 abbrev pub leading_to : Clause → Result Next LoadFault → Result Clause LoadFault
-leading_to c (Ok n) = Ok (record { values = c.values; verdict = c.verdict; counters = c.counters; leaf = c.leaf; next = n })
+leading_to c (Ok n) = Ok (record c { next = n })
 leading_to c (Err e) = Err e
 
 abbrev pub clause_resolved : List ℕ → ℕ → List Item → Clause → Result Clause LoadFault

@@ -1,5 +1,5 @@
 -- What the productions of an item and of a flow make of the tokens that are left.
-use Rattle.std.specs.Prelude.{ℕ, ◌+◌, Bool, true, not, ◌||◌, List, length, drop, is_some, Some, None, Ok, Err, Option, Result, nat_le}
+use Rattle.std.specs.Prelude.{ℕ, ◌+◌, Bool, true, not, List, length, drop, is_some, Some, None, Ok, Err, Option, Result, nat_le}
 use Rattle.std.specs.List.{slice_get}
 use Rattle.keywords.specs.declared.Keyword.TheVariants as kw
 use Rattle.text_bytes.specs.declared.kinds.Mark.TheVariants as mk
@@ -15,14 +15,16 @@ use Rattle.plan.specs.declared.rows.Span.{Span}
 use Rattle.plan.specs.Drafts.{Draft, with_item, with_flow, with_clauses}
 use Rattle.names.specs.Names.{found}
 use Rattle.refusals.specs.declared.fault.LoadFault.{LoadFault}
+use Rattle.refusals.specs.declared.fault.LoadFault.TheVariants.{Rule}
 use Rattle.refusals.specs.declared.fault.RuleFault.TheVariants.{DeclaredBefore, NotDeclared, TableFull, ReturnNotListed, TooDeep}
 use Rattle.refusals.specs.Steps.{Loaded, parse, then, refuse, allow, ended, many}
 use Rattle.refusals.specs.Shapes.{is_keyword, is_mark, row_turn}
+use Rattle.productions.specs.Naming.{name_at, runnable_in}
 use Rattle.clauses.specs.Clauses.{clause_in}
 use Rattle.flows.specs.Checks.{item_name, items_listed, flow_items, depth_in, deepest, resolved_from}
 
 abbrev pub name_of : Spot → Name
-name_of n = record { place = n.1; len = length n.0 }
+name_of n = name_at n
 
 abbrev pub span : ℕ → ℕ → Span
 span from to = record { from = from; to = to }
@@ -46,7 +48,7 @@ clauses_in text d ts =
 
 -- one deeper than a flow of depth 7 is still allowed
 abbrev pub flow_run : Draft → ℕ → Option ℕ → Tokens → Loaded Runs
-flow_run d p None ts = refuse true (NotDeclared p) (Ok (RunsFlow 0, ts))
+flow_run d p None ts = Err (Rule (NotDeclared p))
 flow_run d p (Some f) ts = refuse (nat_le 8 (depth_in (slice_get d.flows f))) (TooDeep p) (Ok (RunsFlow f, ts))
 
 abbrev pub test_run : List ℕ → Draft → Spot → Option ℕ → Tokens → Loaded Runs
@@ -92,7 +94,7 @@ items_in text d ts =
 
 -- a test or a flow has this name
 abbrev pub runnable : List ℕ → Draft → List ℕ → Bool
-runnable text d word = is_some (found (λ t. t.name) text d.tests word) || is_some (found (λ f. f.name) text d.flows word)
+runnable text d word = runnable_in text d.tests d.flows word
 
 abbrev pub with_targets : Name → ℕ → Draft → Result (List Clause) LoadFault → Result Draft LoadFault
 with_targets n first d (Ok cs) = Ok (with_flow (record { name = n; items = span first (length d.items); depth = 1 + deepest d.flows (drop first d.items) }) (with_clauses cs d))

@@ -1,63 +1,29 @@
 // What is checked of a whole item and a whole flow.
 
-ghost use Rattle.std.specs.Prelude.{◌≡◌, ℕ, ◌+◌, ◌≤◌, map, length, drop, vec_capacity};
+ghost use Rattle.std.specs.Prelude.{◌≡◌, ℕ, ◌+◌, ◌≤◌, map, length, drop};
 ghost use Rattle.std.specs.List.{slice_get};
-ghost use Rattle.plan.specs.Meaning.{rows_of, code_of};
-ghost use Rattle.plan.specs.Meaning.{lists as listed};
-ghost use Rattle.flows.specs.Checks.{return_listed, clauses_listed, items_listed, flow_items, depth_in, depth_of, deepest, word_at, next_resolved, resolved_from, become};
+ghost use Rattle.flows.specs.Checks.{return_listed, clauses_listed, items_listed, flow_items, depth_in, depth_of, deepest, word_at, next_resolved, clause_resolved, resolved_from, become};
 
 use names::find;
-use plan::{Clause, Flow, Item, Next, Runs, Span, Value};
+use plan::{Clause, Flow, Item, MOST_CLAUSES, Next, Runs, Table, Value, lists};
 use refusals::{LoadFault, RuleFault};
 use text_bytes::{ByteKind, run_end};
-
-// The rows of a span, as far as the table goes.
-pub fn rows_of<T>(rows: &[T], span: Span) -> &[T]
-    ensures { result.now ≡ rows_of span rows.now }
-{
-    let from = span.from;
-    let to = span.to;
-    if from >= rows.len() {
-        return &rows[0..0];
-    }
-    if to <= from {
-        return &rows[0..0];
-    }
-    if to >= rows.len() {
-        return &rows[from..];
-    }
-    &rows[from..to]
-}
 
 // The rows from one on.
 pub fn rows_from<T>(rows: &[T], from: usize) -> &[T]
     ensures { result.now ≡ drop from rows.now }
 {
-    if from >= rows.len() {
-        return &rows[0..0];
-    }
-    &rows[from..]
+    rows.get(from..).unwrap_or_default()
 }
 
 // The items of a flow.
 pub fn items_of<'a>(flows: &[Flow], items: &'a [Item], f: usize) -> &'a [Item]
     ensures { result.now ≡ flow_items items.now (slice_get flows.now f) }
 {
-    if f >= flows.len() {
-        return &items[0..0];
+    match flows.get(f) {
+        Some(flow) => flow.items.of(items),
+        None => &[],
     }
-    rows_of(items, flows[f].items)
-}
-
-fn lists_code(values: &[Value], code: u16) -> bool
-    ensures { result ≡ listed code (map code_of values.now) }
-{
-    for v in values {
-        if v.code == code {
-            return true;
-        }
-    }
-    false
 }
 
 fn return_listed(next: Next, values: &[Value]) -> bool
@@ -65,7 +31,7 @@ fn return_listed(next: Next, values: &[Value]) -> bool
 {
     match next {
         Next::GoTo(_) => true,
-        Next::Return(v) => lists_code(values, v.code),
+        Next::Return(v) => lists(values, v),
     }
 }
 
@@ -73,33 +39,23 @@ fn return_listed(next: Next, values: &[Value]) -> bool
 pub fn clauses_listed(clauses: &[Clause], values: &[Value]) -> bool
     ensures { result ≡ clauses_listed values.now clauses.now }
 {
-    for c in clauses {
-        if !return_listed(c.next, values) {
-            return false;
-        }
-    }
-    true
+    clauses.iter().all(|c| return_listed(c.next, values))
 }
 
 // Whether every value that a clause of one of the items returns is listed.
 pub fn items_listed(items: &[Item], clauses: &[Clause], values: &[Value]) -> bool
     ensures { result ≡ items_listed values.now clauses.now items.now }
 {
-    for it in items {
-        if !clauses_listed(rows_of(clauses, it.clauses), values) {
-            return false;
-        }
-    }
-    true
+    items
+        .iter()
+        .all(|it| clauses_listed(it.clauses.of(clauses), values))
 }
 
+// The depth of a flow; 0 where there is none.
 pub fn depth_at(flows: &[Flow], f: usize) -> usize
     ensures { result ≡ depth_in (slice_get flows.now f) }
 {
-    if f >= flows.len() {
-        return 0;
-    }
-    flows[f].depth
+    flows.get(f).map_or(0, |flow| flow.depth)
 }
 
 fn depth_of(runs: Runs, flows: &[Flow]) -> usize
@@ -115,26 +71,21 @@ fn depth_of(runs: Runs, flows: &[Flow]) -> usize
 pub fn deepest_run(items: &[Item], flows: &[Flow]) -> usize
     ensures { result ≡ deepest flows.now items.now }
 {
-    let mut most = 0;
-    for it in items {
-        let depth = depth_of(it.runs, flows);
-        if depth > most {
-            most = depth;
-        }
-    }
-    most
+    items
+        .iter()
+        .map(|it| depth_of(it.runs, flows))
+        .max()
+        .unwrap_or(0)
 }
 
 fn word_at(text: &[u8], place: usize) -> &[u8]
     ensures { result.now ≡ word_at text.now place }
 {
-    if place >= text.len() {
-        return &text[0..0];
-    }
-    let end = run_end(text, place, ByteKind::OfName);
-    &text[place..end]
+    let from = rows_from(text, place);
+    &from[..run_end(from, 0, ByteKind::OfName)]
 }
 
+#[tactic(auto, using(names::proofs::Found::found_below))]
 fn resolve_next(text: &[u8], first: usize, items: &[Item], next: Next) -> Result<Next, LoadFault>
     requires { first + length items.now ≤ 512 }
     ensures { result ≡ next_resolved text.now first items.now next }
@@ -142,10 +93,18 @@ fn resolve_next(text: &[u8], first: usize, items: &[Item], next: Next) -> Result
     match next {
         Next::GoTo(place) => match find(items, text, word_at(text, place)) {
             Some(k) => Ok(Next::GoTo(first + k)),
-            None => Err(LoadFault::Rule(RuleFault::NotDeclared(place))),
+            None => Err(RuleFault::NotDeclared(place).into()),
         },
         Next::Return(v) => Ok(Next::Return(v)),
     }
+}
+
+fn resolve_clause(text: &[u8], first: usize, items: &[Item], c: Clause) -> Result<Clause, LoadFault>
+    requires { first + length items.now ≤ 512 }
+    ensures { result ≡ clause_resolved text.now first items.now c }
+{
+    let next = resolve_next(text, first, items, c.next)?;
+    Ok(Clause { next, ..c })
 }
 
 // Every GoTo of the clauses from a row on leads to the item that is named at its place, or the first that does not is told.
@@ -154,24 +113,14 @@ pub fn resolve(
     first: usize,
     items: &[Item],
     from: usize,
-    clauses: &mut Vec<Clause>,
+    clauses: &mut Table<Clause, MOST_CLAUSES>,
 ) -> Result<(), LoadFault>
     requires { first + length items.now ≤ 512 }
-    ensures told { become result clauses.new.items ≡ resolved_from text.now first items.now from clauses.old.items }
-    ensures room { vec_capacity clauses.new ≡ vec_capacity clauses.old }
+    ensures { become result clauses.new ≡ resolved_from text.now first items.now from clauses.old }
 {
-    let mut i = from;
-    while i < clauses.len() {
-        let c = clauses[i];
-        let next = resolve_next(text, first, items, c.next)?;
-        clauses[i] = Clause {
-            values: c.values,
-            verdict: c.verdict,
-            counters: c.counters,
-            leaf: c.leaf,
-            next,
-        };
-        i += 1;
+    for i in from..clauses.len() {
+        let row = resolve_clause(text, first, items, clauses.as_slice()[i])?;
+        clauses.set(i, row);
     }
     Ok(())
 }

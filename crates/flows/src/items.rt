@@ -1,75 +1,56 @@
 // An item: what it runs, and its clauses.
 
-ghost use Rattle.std.specs.Prelude.{◌≡◌, ℕ, ◌+◌, ◌<◌, ◌≤◌, length, IfOk, if◌then◌else◌, OnOk};
+ghost use Rattle.std.specs.Prelude.{◌≡◌, ℕ, ◌<◌, OnOk};
+ghost use Rattle.keywords.specs.declared.Keyword.TheVariants as kw;
 ghost use Rattle.tokens.specs.Terminals.{count};
 ghost use Rattle.tokens.specs.Reading.{rest};
 ghost use Rattle.plan.specs.Drafts.{drafted};
-ghost use Rattle.refusals.specs.Steps.{ended, many};
-ghost use Rattle.flows.specs.Flows.{clause_turn, clauses_in, runs_in, run_listed, item_in};
+ghost use Rattle.refusals.specs.Shapes.{is_keyword};
+ghost use Rattle.refusals.specs.Steps.{ended};
+ghost use Rattle.productions.specs.Desks.{Reads, rows};
+ghost use Rattle.clauses.specs.Clauses.{clause_in};
+ghost use Rattle.flows.specs.Flows.{clauses_in, runs_in, run_listed, item_in};
 
 use crate::checks::{depth_at, items_listed, items_of, rows_from};
 use clauses::clause;
-use grammar::{Found, GrammarFault, Symbol, any_symbol, expect, name};
+use grammar::{Found, name};
 use keywords::Keyword;
 use names::find;
-use plan::{Item, MOST_ITEMS, Name, Runs, Span, Tables};
+use plan::{Item, Runs, Span, Tables};
+use productions::{Desk, Row, braced, declared, fresh};
 use refusals::{LoadFault, RuleFault};
-use text_bytes::Mark;
 use tokens::Reader;
 
 // The depth of flows that are run; the flow that runs one is one deeper.
 const DEEPEST_RUN: usize = 7;
 
-// A clause and the symbol behind it, where one begins.
-fn clause_turn<'a>(
-    r: &mut Reader<'a>,
-    text: &[u8],
-    t: &mut Tables,
+// A clause of the item whose values begin at the row `first`.
+#[derive(Clone, Copy)]
+struct ClauseRow {
     first: usize,
-    next: &mut Found,
-) -> Result<bool, LoadFault>
-    ensures told { ended (λ more. (more, (drafted t.new, next.new))) result (rest r.new) ≡ clause_turn text.now first (drafted t.old, next.old) (rest r.old) }
-    ensures on { IfOk result (λ more. count (rest r.new) + (if more then 1 else 0) ≤ count (rest r.old)) }
-{
-    if next.symbol != Symbol::Keyword(Keyword::Result) {
-        return Ok(false);
-    }
-    clause(r, text, t, first, next.place)?;
-    *next = any_symbol(r)?;
-    Ok(true)
 }
 
-// clause clause .. up to a symbol that begins no clause
-fn item_clauses<'a>(
-    r: &mut Reader<'a>,
-    text: &[u8],
-    t: &mut Tables,
-    first: usize,
-    next: &mut Found,
-) -> Result<(), LoadFault>
-    ensures told { ended (λ _. (drafted t.new, next.new)) result (rest r.new) ≡ many (clause_turn text.now first) (drafted t.old, next.old) (rest r.old) }
-    ensures on { OnOk result (count (rest r.new) ≤ count (rest r.old)) }
-{
-    while clause_turn(r, text, t, first, next)? {}
-    Ok(())
+impl Row for ClauseRow {
+    ghost begins = { λ _. is_keyword kw.Result };
+
+    ghost production = { λ row next text. clause_in text next.place row.first };
+
+    fn begins(&self, next: Found) -> bool {
+        next.is_keyword(Keyword::Result)
+    }
+
+    fn read<'a, 't>(&self, desk: &mut Desk<'a, 't>, next: Found) -> Result<(), LoadFault> {
+        clause(desk, self.first, next.place)
+    }
 }
 
 // { clause+ }
-fn braced_clauses<'a>(r: &mut Reader<'a>, text: &[u8], t: &mut Tables) -> Result<(), LoadFault>
-    ensures told { ended (λ _. drafted t.new) result (rest r.new) ≡ clauses_in text.now (drafted t.old) (rest r.old) }
-    ensures on { OnOk result (count (rest r.new) < count (rest r.old)) }
+fn clauses<'a, 't>(desk: &mut Desk<'a, 't>) -> Result<(), LoadFault>
+    ensures { Reads clauses_in (λ _. rows desk.new) desk.old desk.new result }
 {
+    let t = &*desk.tables;
     let first = t.values.len();
-    expect(r, Symbol::Mark(Mark::OpenBrace))?;
-    let mut next = any_symbol(r)?;
-    if next.symbol != Symbol::Keyword(Keyword::Result) {
-        return Err(LoadFault::Grammar(GrammarFault::NotAllowed(next.place)));
-    }
-    item_clauses(r, text, t, first, &mut next)?;
-    if next.symbol != Symbol::Mark(Mark::CloseBrace) {
-        return Err(LoadFault::Grammar(GrammarFault::NotAllowed(next.place)));
-    }
-    Ok(())
+    braced(&ClauseRow { first }, desk)
 }
 
 // The name of a test, or of a flow whose closing brace came before.
@@ -77,19 +58,15 @@ fn read_runs<'a>(r: &mut Reader<'a>, text: &[u8], t: &Tables) -> Result<Runs, Lo
     ensures told { ended (λ x. x) result (rest r.new) ≡ runs_in text.now (drafted t.now) (rest r.old) }
     ensures on { OnOk result (count (rest r.new) < count (rest r.old)) }
 {
-    let n = name(r)?;
-    if let Some(test) = find(t.tests.as_slice(), text, n.bytes) {
+    let word = name(r)?;
+    if let Some(test) = find(t.tests.as_slice(), text, word.bytes) {
         return Ok(Runs::Test(test));
     }
-    match find(t.flows.as_slice(), text, n.bytes) {
-        Some(flow) => {
-            if depth_at(t.flows.as_slice(), flow) > DEEPEST_RUN {
-                return Err(LoadFault::Rule(RuleFault::TooDeep(n.place)));
-            }
-            Ok(Runs::Flow(flow))
-        }
-        None => Err(LoadFault::Rule(RuleFault::NotDeclared(n.place))),
+    let flow = declared(t.flows.as_slice(), text, word)?;
+    if depth_at(t.flows.as_slice(), flow) > DEEPEST_RUN {
+        return Err(RuleFault::TooDeep(word.place).into());
     }
+    Ok(Runs::Flow(flow))
 }
 
 // Whether an item that lists the values from the row `first` on lists every value that the flow returns which it runs.
@@ -98,51 +75,38 @@ fn run_listed(t: &Tables, first: usize, runs: Runs) -> bool
 {
     match runs {
         Runs::Test(_) => true,
-        Runs::Flow(f) => {
-            let items = items_of(t.flows.as_slice(), t.items.as_slice(), f);
-            items_listed(
-                items,
-                t.clauses.as_slice(),
-                rows_from(t.values.as_slice(), first),
-            )
-        }
+        Runs::Flow(f) => items_listed(
+            items_of(t.flows.as_slice(), t.items.as_slice(), f),
+            t.clauses.as_slice(),
+            rows_from(t.values.as_slice(), first),
+        ),
     }
 }
 
 // name name { clause+ } behind the keyword at `place`, in the flow whose items begin at the row `first`
-pub fn item<'a>(
-    r: &mut Reader<'a>,
-    text: &[u8],
-    t: &mut Tables,
-    first: usize,
-    place: usize,
-) -> Result<(), LoadFault>
-    ensures told { ended (λ _. drafted t.new) result (rest r.new) ≡ item_in text.now first place (drafted t.old) (rest r.old) }
-    ensures on { OnOk result (count (rest r.new) < count (rest r.old)) }
+pub fn item<'a, 't>(desk: &mut Desk<'a, 't>, first: usize, place: usize) -> Result<(), LoadFault>
+    ensures { Reads (λ text. item_in text first place) (λ _. rows desk.new) desk.old desk.new result }
 {
-    if t.items.len() >= MOST_ITEMS {
-        return Err(LoadFault::Rule(RuleFault::TableFull(place)));
+    let t = &*desk.tables;
+    if t.items.is_full() {
+        return Err(RuleFault::TableFull(place).into());
     }
-    let n = name(r)?;
-    if find(rows_from(t.items.as_slice(), first), text, n.bytes).is_some() {
-        return Err(LoadFault::Rule(RuleFault::DeclaredBefore(n.place)));
-    }
-    let runs = read_runs(r, text, t)?;
+    let word = name(&mut desk.reader)?;
+    let name = fresh(rows_from(t.items.as_slice(), first), desk.text, word)?;
+    let runs = read_runs(&mut desk.reader, desk.text, t)?;
     let values = t.values.len();
     let from = t.clauses.len();
-    braced_clauses(r, text, t)?;
+    clauses(desk)?;
+    let t = &mut *desk.tables;
     if !run_listed(t, values, runs) {
-        return Err(LoadFault::Rule(RuleFault::ReturnNotListed(n.place)));
+        return Err(RuleFault::ReturnNotListed(word.place).into());
     }
     let clauses = Span {
         from,
         to: t.clauses.len(),
     };
-    t.add_item(Item {
-        name: Name {
-            place: n.place,
-            len: n.bytes.len(),
-        },
+    t.items.add(Item {
+        name,
         runs,
         clauses,
     });

@@ -1,10 +1,13 @@
-use Rattle.std.proofs.Common.{◌≡◌, length, vec_items, sym, ap, arith}
+use Rattle.std.proofs.Common.{◌<◌, sym, ap, length, arith, rules}
 use Rattle.tokens.specs.Reading.{rest}
-use Rattle.plan.specs.Drafts.{drafted}
+use Rattle.productions.specs.Desks.{text, rows, unread}
 use Rattle.flows.proofs.Keeping.{clauses_beside}
 use Rattle.flows.proofs.items.item.Goals as goal
 
-pub add_item-requires : goal.add_item-requires
-add_item-requires c =
-    let same : vec_items c.braced_clauses.new.t.items ≡ vec_items c.args.t.now.items = (clauses_beside c.args.text.now (drafted c.args.t.now) (rest c.read_runs.new.r) (drafted c.braced_clauses.new.t) (rest c.braced_clauses.new.r) (sym c.in_ok-braced_clauses.ensures.told)).items in
-    omega (arith, ap length same, c.args.t.now.items.ok.0)
+pub add-requires : goal.add-requires
+add-requires c =
+    let desk = c.args.desk.now in
+    let read = c.clauses.new.desk in
+    let beside = clauses_beside (text desk) (rows desk) (rest c.read_runs.new.r) (rows read) (unread read) (sym c.in_ok-clauses.ensures.told) in
+    let room : length (rows desk).items < 512 = search rules in
+    omega (arith, ap length beside.items)
