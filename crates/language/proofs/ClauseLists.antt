@@ -1,5 +1,5 @@
 -- The values and the counters of a clause, both ways.
-use Rattle.std.proofs.Common.{◌≡◌, ℕ, suc, ◌+◌, ◌≤◌, Bool, true, false, cond, eqb, leb, List, [], ◌∷◌, ◌++◌, map, length, drop, Some, Ok, sym, refl, ap, ◌∙◌, subst, append_assoc, append-nil, arith, length-append}
+use Rattle.std.proofs.Common.{◌≡◌, ℕ, suc, ◌+◌, ◌≤◌, Bool, true, false, cond, ◌||◌, eqb, leb, List, [], ◌∷◌, ◌++◌, map, length, drop, Some, Ok, sym, refl, ap, ◌∙◌, subst, append_assoc, append-nil, arith, length-append}
 use Rattle.std.proofs.lemmas.List.{map_push, map-append, map-id, drop-append-le, drop_at}
 use Rattle.std.proofs.lemmas.Bool.{false≢true, eqb-true, lt-leb}
 use Rattle.std.specs.List.{slice_get}
@@ -39,7 +39,7 @@ among_at : {R : Type 0} (code : R → ℕ) (n : ℕ) (rows : List R) → among c
 among_at code n [] e = absurd (false≢true e)
 among_at code n (x ∷ rows) e = by (eqb (code x) n) refl e (among_at code n rows)
   where
-    by : (b : Bool) → eqb (code x) n ≡ b → cond b true (among code n rows) ≡ true → (among code n rows ≡ true → (i : ℕ) × (slice_get (map code rows) i ≡ Some n)) → (i : ℕ) × (slice_get (code x ∷ map code rows) i ≡ Some n)
+    by : (b : Bool) → eqb (code x) n ≡ b → (b || among code n rows) ≡ true → (among code n rows ≡ true → (i : ℕ) × (slice_get (map code rows) i ≡ Some n)) → (i : ℕ) × (slice_get (code x ∷ map code rows) i ≡ Some n)
     by true s e rec = (0, ap Some (eqb-true (code x) n s))
     by false s e rec = let r = rec e in (suc r.0, r.1)
 
