@@ -1,15 +1,13 @@
 -- What the counters and the tests of an accepted plan keep, and the tokens that they leave.
-use Rattle.std.proofs.Common.{◌≡◌, ℕ, suc, ◌<◌, ◌≤◌, Bool, true, false, cond, leb, List, [], ◌∷◌, ◌++◌, map, length, is_some, Some, None, Ok, Option, sym, refl, ap, ◌∙◌, subst, append_assoc, arith, length-append}
+use Rattle.std.proofs.Common.{◌≡◌, ℕ, suc, ◌<◌, ◌≤◌, Bool, leb, List, [], ◌∷◌, ◌++◌, map, length, is_some, Some, None, Ok, Option, sym, refl, ap, ◌∙◌, subst, append_assoc, arith, length-append}
 use Rattle.std.proofs.lemmas.List.{append-nil, map-append}
 use Rattle.std.proofs.lemmas.Bool.{leb-false, or_parts}
 use Rattle.std.specs.List.{slice_get}
 use Rattle.text_bytes.specs.declared.kinds.Mark.TheVariants as mk
 use Rattle.tokens.specs.Terminals.{Tokens, count}
 use Rattle.grammar.specs.declared.readers.ValueStart.{ValueStart}
-use Rattle.grammar.specs.declared.symbols.Found.{Found}
 use Rattle.grammar.specs.declared.symbols.Symbol.TheVariants.{Mark}
-use Rattle.grammar.specs.Symbols.{same_symbol}
-use Rattle.grammar.specs.Readers.{name_in, symbol_in, expect_in, name_or_close_in}
+use Rattle.grammar.specs.Readers.{name_in, expect_in, name_or_close_in}
 use Rattle.grammar.specs.Readers.{setting_in as setting_begun}
 use Rattle.plan.specs.declared.rows.Counter.{Counter}
 use Rattle.plan.specs.declared.rows.Name.{Name}
@@ -20,8 +18,7 @@ use Rattle.plan.proofs.Added.{once_row, once_between, in_neither}
 use Rattle.names.specs.Names.{found}
 use Rattle.names.proofs.Found.{none_found}
 use Rattle.refusals.specs.declared.fault.RuleFault.TheVariants.{DeclaredBefore, TableFull}
-use Rattle.refusals.specs.Steps.{allow}
-use Rattle.refusals.proofs.Passing.{accepted, parse_passed, then_passed, refuse_passed, allow_passed, turns_keep}
+use Rattle.refusals.proofs.Passing.{accepted, parse_passed, then_passed, refuse_passed, turns_keep}
 use Rattle.refusals.proofs.Spelled.{NamesAt, want_leaves, placed_leaves, expect_leaves, name_at}
 use Rattle.values.specs.Values.{value_from}
 use Rattle.values.proofs.Left.{value_from_leaves}

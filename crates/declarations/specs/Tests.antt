@@ -1,5 +1,5 @@
 -- What is read of a test, as a row of a draft, or the first rule that is broken.
-use Rattle.std.specs.Prelude.{ℕ, Bool, ◌||◌, List, length, is_some, Some, None, Ok, Option, nat_le}
+use Rattle.std.specs.Prelude.{ℕ, Bool, List, length, Some, None, Ok, Option, nat_le}
 use Rattle.text_bytes.specs.declared.kinds.Mark.TheVariants as mk
 use Rattle.tokens.specs.Terminals.{Tokens}
 use Rattle.grammar.specs.declared.readers.ValueStart.{ValueStart}
@@ -7,10 +7,7 @@ use Rattle.grammar.specs.declared.symbols.Symbol.TheVariants.{Mark}
 use Rattle.grammar.specs.Readers.{name_in, expect_in, name_or_close_in}
 use Rattle.grammar.specs.Readers.{setting_in as setting_begun}
 use Rattle.plan.specs.declared.rows.Name.{Name}
-use Rattle.plan.specs.declared.rows.Test.{Test}
-use Rattle.plan.specs.declared.rows.Flow.{Flow}
 use Rattle.plan.specs.Drafts.{Draft, with_test}
-use Rattle.names.specs.Names.{found}
 use Rattle.refusals.specs.declared.fault.RuleFault.TheVariants.{DeclaredBefore, TableFull}
 use Rattle.productions.specs.Naming.{name_at, runnable_in}
 use Rattle.refusals.specs.Steps.{Loaded, parse, then, refuse, many}

@@ -1,16 +1,15 @@
 -- Rows in braces, and what was read where they were accepted.
-use Rattle.std.proofs.Common.{◌≡◌, ℕ, Bool, true, false, List, Ok, Err, refl, ap, ◌∙◌, subst}
+use Rattle.std.proofs.Common.{◌≡◌, ℕ, Bool, true, List, Ok, subst}
 use Rattle.text_bytes.specs.declared.kinds.Mark.TheVariants.{OpenBrace, CloseBrace}
 use Rattle.tokens.specs.Terminals.{Tokens}
 use Rattle.grammar.specs.declared.symbols.Found.{Found}
 use Rattle.grammar.specs.declared.symbols.Symbol.TheVariants as sy
-use Rattle.grammar.specs.Readers.{Parsed, symbol_in, expect_in}
+use Rattle.grammar.specs.Readers.{symbol_in, expect_in}
 use Rattle.plan.specs.Drafts.{Draft}
 use Rattle.refusals.specs.Shapes.{is_mark, row_turn}
 use Rattle.refusals.specs.Steps.{Loaded, parse, then, allow, many}
 use Rattle.refusals.proofs.Passing.{accepted, parse_passed, then_passed, allow_passed}
 use Rattle.refusals.proofs.Spelled.{NamesAt, want_leaves, expect_leaves}
-use Rattle.productions.specs.Following.{some_rows_in, rows_in, braced_in}
 
 -- }   behind the rows
 abbrev closes : Draft × Found → Tokens → Loaded Draft

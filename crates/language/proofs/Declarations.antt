@@ -7,10 +7,8 @@ use Rattle.tokens.specs.Terminals.{Terminal, Tokens}
 use Rattle.tokens.specs.Terminals as t
 use Rattle.grammar.specs.declared.readers.ValueStart.{ValueStart}
 use Rattle.grammar.specs.declared.readers.ValueStart.TheVariants.{Minus, Digits}
-use Rattle.grammar.specs.declared.symbols.Found.{Found}
 use Rattle.grammar.specs.declared.symbols.Symbol.TheVariants.{Mark}
-use Rattle.grammar.specs.Symbols.{same_symbol}
-use Rattle.grammar.specs.Readers.{name_in, symbol_in, expect_in, name_or_close_in}
+use Rattle.grammar.specs.Readers.{name_in, expect_in, name_or_close_in}
 use Rattle.grammar.specs.Readers.{setting_in as setting_begun}
 use Rattle.plan.specs.declared.rows.Counter.{Counter}
 use Rattle.plan.specs.declared.rows.Name.{Name}
@@ -20,8 +18,7 @@ use Rattle.plan.specs.Rules.{Once, spelt}
 use Rattle.names.specs.Names.{found}
 use Rattle.values.specs.Values.{value_from}
 use Rattle.refusals.specs.declared.fault.RuleFault.TheVariants.{DeclaredBefore, TableFull}
-use Rattle.refusals.specs.Steps.{allow}
-use Rattle.refusals.proofs.Passing.{accepted, parse_passed, then_passed, refuse_passed, allow_passed}
+use Rattle.refusals.proofs.Passing.{accepted, parse_passed, then_passed, refuse_passed}
 use Rattle.refusals.proofs.Spelled.{NamesAt, name_at}
 use Rattle.declarations.specs.Counters.{counter_in, counter_turn, counters_in}
 use Rattle.productions.specs.Naming.{runnable_in}
@@ -32,7 +29,7 @@ use Rattle.language.specs.Trees.{Word, Several, each, SettingTree, to_name, to_s
 use Rattle.language.specs.Grammar.{list_tokens, row_tokens, name_tokens, setting_tokens, setter_tokens}
 use Rattle.language.specs.Standing.{declared, names_in}
 use Rattle.language.specs.Obeying.{Starts, here, next, Every, SettingFits}
-use Rattle.language.proofs.Taking.{terminal, symbol_same, symbol_taken, name_taken, another_taken, expect_taken, setting_taken, SettingToken, NameOrClose, name_or_close_taken, start_token, start_place, front, join, split, names_behind, undeclared_found, next_not_found}
+use Rattle.language.proofs.Taking.{name_taken, another_taken, expect_taken, setting_taken, SettingToken, NameOrClose, name_or_close_taken, start_token, start_place, front, join, split, names_behind, undeclared_found, next_not_found}
 use Rattle.language.proofs.Along.{every_then}
 use Rattle.language.proofs.Onward.{expect_one, parse_on, then_on, refuse_on}
 use Rattle.language.proofs.Lists.{OneRead, list_sound, list_complete, after, Turned, elements_sound, elements_complete}
@@ -133,8 +130,8 @@ module _ (text : List ℕ) (d : Draft) where
       let room = q.room in
       let full : leb 32 (length s.counters) ≡ false = lt-leb 32 (length s.counters) (omega arith) in
       let goes : counter_turn text s ts ≡ Ok ((more, with_counter row s), us) =
-          then_on (counter_in text s ts) _ (parse_on (name_in ts) _ (ap name_in r.is) (refuse_on (is_some (found (λ k. k.name) text s.counters n)) _ _ new (refuse_on (leb 32 (length s.counters)) _ _ full refl)))
-          (parse_on (another_in mk.CloseBrace r.behind) _ (another_read more r.behind us r.starts) refl) in (
+      then_on (counter_in text s ts) _ (parse_on (name_in ts) _ (ap name_in r.is) (refuse_on (is_some (found (λ k. k.name) text s.counters n)) _ _ new (refuse_on (leb 32 (length s.counters)) _ _ full refl)))
+      (parse_on (another_in mk.CloseBrace r.behind) _ (another_read more r.behind us r.starts) refl) in (
         with_counter row s,
         goes,
         record {

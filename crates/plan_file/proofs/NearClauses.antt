@@ -3,7 +3,6 @@ use Rattle.std.proofs.Common.{ℕ, ◌≤◌, not, leb, List, length, drop, is_s
 use Rattle.std.specs.List.{slice_get, AllByRecursion as All}
 use Rattle.std.proofs.ByRecursion.{All-push}
 use Rattle.std.proofs.lemmas.List.{drop-append-le}
-use Rattle.text_bytes.specs.declared.kinds.Mark.TheVariants as mk
 use Rattle.keywords.specs.declared.Keyword.TheVariants as kw
 use Rattle.tokens.specs.Terminals.{Tokens}
 use Rattle.tokens.specs.Spelling.{Within}
@@ -18,7 +17,7 @@ use Rattle.plan.specs.declared.rows.Value.{Value}
 use Rattle.plan.specs.Drafts.{Draft, with_clause}
 use Rattle.plan.specs.Meaning.{code_of}
 use Rattle.names.specs.Names.{found}
-use Rattle.refusals.specs.Shapes.{is_keyword, is_mark}
+use Rattle.refusals.specs.Shapes.{is_keyword}
 use Rattle.values.specs.Values.{placed_value, leaving, value_from, value_in}
 use Rattle.declarations.specs.Counters as c
 use Rattle.productions.specs.Naming.{runnable_in}

@@ -1,5 +1,5 @@
 -- Turns of lists and rows, as loops make them. The text on the desk, x, is the text y that it was at the start.
-use Rattle.std.proofs.Common.{◌≡◌, ℕ, ◌+◌, ◌<◌, ◌≤◌, Bool, true, false, cond, List, Ok, Err, Result, sym, ap, ◌∙◌, arith}
+use Rattle.std.proofs.Common.{◌≡◌, ℕ, ◌<◌, Bool, true, false, List, Ok, Err, sym, ap, ◌∙◌, arith}
 use Rattle.std.proofs.lemmas.Bool.{cond-true, cond-false}
 use Rattle.text_bytes.specs.declared.kinds.Mark.{Mark}
 use Rattle.tokens.specs.Terminals.{Tokens, count}

@@ -4,7 +4,7 @@ use Rattle.tokens.specs.Spelling.{Within}
 use Rattle.tokens.specs.Scanning.{tokens_from}
 use Rattle.tokens.proofs.Readings.{the_reading}
 use Rattle.plan.specs.declared.rows.Name.{Name}
-use Rattle.plan.specs.Drafts.{Draft, drafted, blank}
+use Rattle.plan.specs.Drafts.{Draft, blank}
 use Rattle.refusals.specs.declared.fault.LoadFault.{LoadFault}
 use Rattle.productions.specs.Desks.{rows}
 use Rattle.plan_file.specs.File.{file_in, filed, Kept, PlaceWithin}

@@ -1,4 +1,4 @@
-use Rattle.std.proofs.Common.{arith, sym, ap, ◌∙◌}
+use Rattle.std.proofs.Common.{arith}
 use Rattle.std.proofs.lemmas.Result.{err_from_is_err_and}
 use Rattle.productions.proofs.Turns.{same_on, entry_on, entry_last, entry_stops, comma_stops}
 use Rattle.productions.proofs.lists.list.Goals as goal
