@@ -1,11 +1,9 @@
 // A bin: its name, its number, its label and the bin that it stands below.
 
-ghost use Rattle.std.specs.Prelude.{◌≡◌, ℕ, ◌<◌, OnOk};
+ghost use Rattle.std.specs.Prelude.{◌≡◌};
 ghost use Rattle.keywords.specs.declared.Keyword.TheVariants.{LeafBin};
-ghost use Rattle.tokens.specs.Terminals.{count};
-ghost use Rattle.tokens.specs.Reading.{rest};
 ghost use Rattle.refusals.specs.Shapes.{is_keyword};
-ghost use Rattle.refusals.specs.Steps.{ended};
+ghost use Rattle.refusals.specs.Steps.{Takes};
 ghost use Rattle.bins.specs.Bins.{number_taken, bin_number_in, leaf_at, parent_in, begins_bin, bin_in};
 
 use grammar::{Found, Symbol, any_symbol, expect, name, number, string};
@@ -31,8 +29,7 @@ fn is_leaf(bins: &[Bin], i: usize) -> bool
 
 // A number that no bin of the group has yet.
 fn bin_number<'a>(r: &mut Reader<'a>, bins: &[Bin], group: usize) -> Result<u32, LoadFault>
-    ensures told { ended (λ n. n) result (rest r.new) ≡ bin_number_in group bins.now (rest r.old) }
-    ensures on { OnOk result (count (rest r.new) < count (rest r.old)) }
+    ensures { Takes (bin_number_in group bins.now) (λ n. n) r.old r.new result }
 {
     let n = number(r)?;
     if n.value > 65535 {
@@ -46,8 +43,7 @@ fn bin_number<'a>(r: &mut Reader<'a>, bins: &[Bin], group: usize) -> Result<u32,
 
 // [, name] ;
 fn parent<'a>(r: &mut Reader<'a>, text: &[u8], bins: &[Bin]) -> Result<Option<usize>, LoadFault>
-    ensures told { ended (λ p. p) result (rest r.new) ≡ parent_in text.now bins.now (rest r.old) }
-    ensures on { OnOk result (count (rest r.new) < count (rest r.old)) }
+    ensures { Takes (parent_in text.now bins.now) (λ p. p) r.old r.new result }
 {
     let next = any_symbol(r)?;
     if next.is_mark(Mark::Semicolon) {

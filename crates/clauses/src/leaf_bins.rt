@@ -1,11 +1,9 @@
 // The leaf bin of a clause.
 
-ghost use Rattle.std.specs.Prelude.{◌≡◌, ℕ, ◌<◌, ◌≤◌, OnOk};
+ghost use Rattle.std.specs.Prelude.{◌≡◌};
 ghost use Rattle.std.specs.List.{slice_get};
-ghost use Rattle.tokens.specs.Terminals.{count};
-ghost use Rattle.tokens.specs.Reading.{rest};
 ghost use Rattle.plan.specs.Drafts.{drafted};
-ghost use Rattle.refusals.specs.Steps.{ended};
+ghost use Rattle.refusals.specs.Steps.{Takes, MayTake};
 ghost use Rattle.clauses.specs.Clauses.{leaf_of, leaf_in, set_bin_in};
 
 use grammar::{Found, Symbol, any_symbol, expect, name};
@@ -25,8 +23,7 @@ fn is_leaf_of(bins: &[Bin], bin: usize, group: usize) -> bool
 
 // name . name ;
 fn leaf<'a>(r: &mut Reader<'a>, text: &[u8], t: &Tables) -> Result<Option<usize>, LoadFault>
-    ensures told { ended (λ x. x) result (rest r.new) ≡ leaf_in text.now (drafted t.now) (rest r.old) }
-    ensures on { OnOk result (count (rest r.new) < count (rest r.old)) }
+    ensures { Takes (leaf_in text.now (drafted t.now)) (λ x. x) r.old r.new result }
 {
     let g = name(r)?;
     let group = declared(t.groups.as_slice(), text, g)?;
@@ -47,8 +44,7 @@ pub fn set_bin<'a>(
     t: &Tables,
     next: Found,
 ) -> Result<(Option<usize>, Found), LoadFault>
-    ensures told { ended (λ x. x) result (rest r.new) ≡ set_bin_in text.now (drafted t.now) next (rest r.old) }
-    ensures on { OnOk result (count (rest r.new) ≤ count (rest r.old)) }
+    ensures { MayTake (set_bin_in text.now (drafted t.now) next) (λ x. x) r.old r.new result }
 {
     if !next.is_keyword(Keyword::SetBin) {
         return Ok((None, next));

@@ -1,10 +1,8 @@
 // A clause whole.
 
-ghost use Rattle.std.specs.Prelude.{◌≡◌, ℕ, ◌<◌, OnOk};
-ghost use Rattle.tokens.specs.Terminals.{count};
-ghost use Rattle.tokens.specs.Reading.{rest};
+ghost use Rattle.std.specs.Prelude.{ℕ};
 ghost use Rattle.plan.specs.Drafts.{drafted};
-ghost use Rattle.refusals.specs.Steps.{ended};
+ghost use Rattle.refusals.specs.Steps.{Takes};
 ghost use Rattle.productions.specs.Desks.{Reads, rows};
 ghost use Rattle.clauses.specs.Clauses.{end_in, body_in, clause_in};
 
@@ -27,8 +25,7 @@ fn end<'a>(
     t: &Tables,
     found: Found,
 ) -> Result<(Option<usize>, Next), LoadFault>
-    ensures told { ended (λ x. x) result (rest r.new) ≡ end_in text.now (drafted t.now) found (rest r.old) }
-    ensures on { OnOk result (count (rest r.new) < count (rest r.old)) }
+    ensures { Takes (end_in text.now (drafted t.now) found) (λ x. x) r.old r.new result }
 {
     let (leaf, found) = set_bin(r, text, t, found)?;
     let next = next(r, found)?;

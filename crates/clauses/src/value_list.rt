@@ -1,11 +1,9 @@
 // The values of a clause.
 
-ghost use Rattle.std.specs.Prelude.{◌≡◌, ℕ, ◌<◌, OnOk, drop};
-ghost use Rattle.tokens.specs.Terminals.{count};
-ghost use Rattle.tokens.specs.Reading.{rest};
+ghost use Rattle.std.specs.Prelude.{◌≡◌, drop};
 ghost use Rattle.plan.specs.Drafts.{drafted};
 ghost use Rattle.plan.specs.Meaning.{code_of};
-ghost use Rattle.refusals.specs.Steps.{ended};
+ghost use Rattle.refusals.specs.Steps.{Takes};
 ghost use Rattle.productions.specs.Desks.{Reads, rows};
 ghost use Rattle.clauses.specs.Parts.{among};
 ghost use Rattle.clauses.specs.Clauses.{start_in, listed_in, values_in};
@@ -20,8 +18,7 @@ use values::value_from;
 
 // The start of a value; where it is a minus, the value has room.
 fn start<'a>(r: &mut Reader<'a>, t: &Tables) -> Result<ValueStart, LoadFault>
-    ensures told { ended (λ x. x) result (rest r.new) ≡ start_in (drafted t.now) (rest r.old) }
-    ensures on { OnOk result (count (rest r.new) < count (rest r.old)) }
+    ensures { Takes (start_in (drafted t.now)) (λ x. x) r.old r.new result }
 {
     match value_start(r)? {
         ValueStart::Minus(place) if t.values.is_full() => {

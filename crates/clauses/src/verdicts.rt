@@ -1,9 +1,7 @@
 // The verdict of a clause.
 
-ghost use Rattle.std.specs.Prelude.{◌≡◌, ℕ, ◌<◌, ◌≤◌, OnOk};
-ghost use Rattle.tokens.specs.Terminals.{count};
-ghost use Rattle.tokens.specs.Reading.{rest};
-ghost use Rattle.refusals.specs.Steps.{ended};
+ghost use Rattle.std.specs.Prelude.{◌≡◌};
+ghost use Rattle.refusals.specs.Steps.{Takes, MayTake};
 ghost use Rattle.clauses.specs.Clauses.{verdict_of, property_in, verdict_in};
 
 use grammar::{Found, Symbol, any_symbol, expect, string};
@@ -25,8 +23,7 @@ fn verdict_of(bytes: &[u8]) -> Option<Verdict>
 
 // PassFail = string ;
 fn property<'a>(r: &mut Reader<'a>) -> Result<Verdict, LoadFault>
-    ensures told { ended (λ x. x) result (rest r.new) ≡ property_in (rest r.old) }
-    ensures on { OnOk result (count (rest r.new) < count (rest r.old)) }
+    ensures { Takes property_in (λ x. x) r.old r.new result }
 {
     expect(r, Symbol::Keyword(Keyword::PassFail))?;
     expect(r, Symbol::Mark(Mark::Equals))?;
@@ -38,8 +35,7 @@ fn property<'a>(r: &mut Reader<'a>) -> Result<Verdict, LoadFault>
 
 // [Property PassFail = string ;] and the symbol behind it
 pub fn verdict<'a>(r: &mut Reader<'a>, next: Found) -> Result<(Verdict, Found), LoadFault>
-    ensures told { ended (λ x. x) result (rest r.new) ≡ verdict_in next (rest r.old) }
-    ensures on { OnOk result (count (rest r.new) ≤ count (rest r.old)) }
+    ensures { MayTake (verdict_in next) (λ x. x) r.old r.new result }
 {
     if !next.is_keyword(Keyword::Property) {
         return Ok((Verdict::Unmarked, next));

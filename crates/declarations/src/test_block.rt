@@ -1,9 +1,9 @@
 // A test: its class, its name and what it sets. Class and settings are read and not kept.
 
-ghost use Rattle.std.specs.Prelude.{◌≡◌, ℕ, ◌+◌, ◌<◌, ◌≤◌, IfOk, if◌then◌else◌, OnOk};
+ghost use Rattle.std.specs.Prelude.{◌≡◌, ℕ, ◌+◌, ◌≤◌, IfOk, if◌then◌else◌};
 ghost use Rattle.tokens.specs.Terminals.{count};
 ghost use Rattle.tokens.specs.Reading.{rest};
-ghost use Rattle.refusals.specs.Steps.{ended, many};
+ghost use Rattle.refusals.specs.Steps.{Takes, MayTake, ended, many};
 ghost use Rattle.productions.specs.Desks.{Reads, rows};
 ghost use Rattle.declarations.specs.Tests.{setting_in, setter_turn, setters_in, test_in};
 
@@ -17,8 +17,7 @@ use values::value_from;
 
 // name | string | value
 fn setting<'a>(r: &mut Reader<'a>) -> Result<(), LoadFault>
-    ensures told { ended (λ u. u) result (rest r.new) ≡ setting_in (rest r.old) }
-    ensures on { OnOk result (count (rest r.new) < count (rest r.old)) }
+    ensures { Takes setting_in (λ u. u) r.old r.new result }
 {
     if let Some(start) = setter_value(r)? {
         value_from(r, start)?;
@@ -39,8 +38,7 @@ fn setter_turn<'a>(r: &mut Reader<'a>) -> Result<bool, LoadFault>
 
 // setter+ }   behind the name of the first
 fn setters_on<'a>(r: &mut Reader<'a>) -> Result<(), LoadFault>
-    ensures told { ended (λ u. u) result (rest r.new) ≡ many setter_turn tt (rest r.old) }
-    ensures on { OnOk result (count (rest r.new) ≤ count (rest r.old)) }
+    ensures { MayTake (many setter_turn tt) (λ u. u) r.old r.new result }
 {
     while setter_turn(r)? {}
     Ok(())
@@ -48,8 +46,7 @@ fn setters_on<'a>(r: &mut Reader<'a>) -> Result<(), LoadFault>
 
 // { setter+ }
 fn setters<'a>(r: &mut Reader<'a>) -> Result<(), LoadFault>
-    ensures told { ended (λ u. u) result (rest r.new) ≡ setters_in (rest r.old) }
-    ensures on { OnOk result (count (rest r.new) < count (rest r.old)) }
+    ensures { Takes setters_in (λ u. u) r.old r.new result }
 {
     expect(r, Symbol::Mark(Mark::OpenBrace))?;
     name(r)?;

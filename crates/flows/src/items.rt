@@ -1,12 +1,10 @@
 // An item: what it runs, and its clauses.
 
-ghost use Rattle.std.specs.Prelude.{◌≡◌, ℕ, ◌<◌, OnOk};
+ghost use Rattle.std.specs.Prelude.{◌≡◌};
 ghost use Rattle.keywords.specs.declared.Keyword.TheVariants as kw;
-ghost use Rattle.tokens.specs.Terminals.{count};
-ghost use Rattle.tokens.specs.Reading.{rest};
 ghost use Rattle.plan.specs.Drafts.{drafted};
 ghost use Rattle.refusals.specs.Shapes.{is_keyword};
-ghost use Rattle.refusals.specs.Steps.{ended};
+ghost use Rattle.refusals.specs.Steps.{Takes};
 ghost use Rattle.productions.specs.Desks.{Reads, rows};
 ghost use Rattle.clauses.specs.Clauses.{clause_in};
 ghost use Rattle.flows.specs.Flows.{clauses_in, runs_in, run_listed, item_in};
@@ -55,8 +53,7 @@ fn clauses<'a, 't>(desk: &mut Desk<'a, 't>) -> Result<(), LoadFault>
 
 // The name of a test, or of a flow whose closing brace came before.
 fn read_runs<'a>(r: &mut Reader<'a>, text: &[u8], t: &Tables) -> Result<Runs, LoadFault>
-    ensures told { ended (λ x. x) result (rest r.new) ≡ runs_in text.now (drafted t.now) (rest r.old) }
-    ensures on { OnOk result (count (rest r.new) < count (rest r.old)) }
+    ensures { Takes (runs_in text.now (drafted t.now)) (λ x. x) r.old r.new result }
 {
     let word = name(r)?;
     if let Some(test) = find(t.tests.as_slice(), text, word.bytes) {

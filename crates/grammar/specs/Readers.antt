@@ -1,6 +1,8 @@
 -- What a reader of one token makes of the tokens that are left.
-use Rattle.std.specs.Prelude.{ℕ, Bool, true, false, cond, List, Some, None, Ok, Err, Option, Result}
-use Rattle.tokens.specs.Terminals.{Terminal, Tokens}
+use Rattle.std.specs.Prelude.{◌≡◌, ℕ, ◌<◌, Bool, true, false, cond, List, Some, None, Ok, Err, Option, Result, OnOk}
+use Rattle.tokens.specs.declared.reader.Reader.{Reader}
+use Rattle.tokens.specs.Reading.{rest}
+use Rattle.tokens.specs.Terminals.{Terminal, Tokens, count}
 use Rattle.tokens.specs.Terminals as t
 use Rattle.grammar.specs.declared.fault.GrammarFault.{GrammarFault}
 use Rattle.grammar.specs.declared.fault.GrammarFault.TheVariants.{Token, NotAllowed}
@@ -27,6 +29,11 @@ Parsed X = Result (X × Tokens) GrammarFault
 abbrev pub left : {X Y : Type 0} → (X → Y) → Result X GrammarFault → Tokens → Parsed Y
 left f (Ok x) ts = Ok (f x, ts)
 left f (Err e) ts = Err e
+
+-- the answer, seen so, and the tokens left are what the definition gives; a token was taken
+pub record Takes {X Y : Type 0} (gives : Tokens → Parsed Y) (seen : X → Y) (before after : Reader) (answer : Result X GrammarFault) : Type 0 where
+  pub told : left seen answer (rest after) ≡ gives (rest before)
+  pub on : OnOk answer (count (rest after) < count (rest before))
 
 -- bytes with their place
 abbrev pub Spot : Type 0

@@ -1,9 +1,8 @@
 // Readers of one token.
 
-ghost use Rattle.std.specs.Prelude.{◌≡◌, ℕ, ◌<◌, OnOk};
-ghost use Rattle.tokens.specs.Terminals.{count};
+ghost use Rattle.std.specs.Prelude.{◌≡◌};
 ghost use Rattle.tokens.specs.Reading.{rest};
-ghost use Rattle.grammar.specs.Readers.{left, word, start_at, name_in, decimal_in, string_in, number_in, symbol_in, expect_in, finish_in, value_start_in, setting_in, name_or_close_in};
+ghost use Rattle.grammar.specs.Readers.{Takes, word, start_at, name_in, decimal_in, string_in, number_in, symbol_in, expect_in, finish_in, value_start_in, setting_in, name_or_close_in};
 
 use crate::fault::GrammarFault;
 use crate::symbols::{Found, Symbol};
@@ -45,8 +44,7 @@ fn start_of(t: Placed<'_>) -> Option<ValueStart>
 }
 
 pub fn name<'a>(r: &mut Reader<'a>) -> Result<Word<'a>, GrammarFault>
-    ensures told { left word result (rest r.new) ≡ name_in (rest r.old) }
-    ensures on { OnOk result (count (rest r.new) < count (rest r.old)) }
+    ensures { Takes name_in word r.old r.new result }
 {
     let t = r.next()?;
     match t.token {
@@ -59,8 +57,7 @@ pub fn name<'a>(r: &mut Reader<'a>) -> Result<Word<'a>, GrammarFault>
 }
 
 pub fn decimal<'a>(r: &mut Reader<'a>) -> Result<Word<'a>, GrammarFault>
-    ensures told { left word result (rest r.new) ≡ decimal_in (rest r.old) }
-    ensures on { OnOk result (count (rest r.new) < count (rest r.old)) }
+    ensures { Takes decimal_in word r.old r.new result }
 {
     let t = r.next()?;
     match t.token {
@@ -73,8 +70,7 @@ pub fn decimal<'a>(r: &mut Reader<'a>) -> Result<Word<'a>, GrammarFault>
 }
 
 pub fn string<'a>(r: &mut Reader<'a>) -> Result<Word<'a>, GrammarFault>
-    ensures told { left word result (rest r.new) ≡ string_in (rest r.old) }
-    ensures on { OnOk result (count (rest r.new) < count (rest r.old)) }
+    ensures { Takes string_in word r.old r.new result }
 {
     let t = r.next()?;
     match t.token {
@@ -87,8 +83,7 @@ pub fn string<'a>(r: &mut Reader<'a>) -> Result<Word<'a>, GrammarFault>
 }
 
 pub fn number<'a>(r: &mut Reader<'a>) -> Result<Numeral, GrammarFault>
-    ensures told { left (λ n. n) result (rest r.new) ≡ number_in (rest r.old) }
-    ensures on { OnOk result (count (rest r.new) < count (rest r.old)) }
+    ensures { Takes number_in (λ n. n) r.old r.new result }
 {
     let t = r.next()?;
     match t.token {
@@ -102,8 +97,7 @@ pub fn number<'a>(r: &mut Reader<'a>) -> Result<Numeral, GrammarFault>
 
 // Any keyword or mark.
 pub fn any_symbol<'a>(r: &mut Reader<'a>) -> Result<Found, GrammarFault>
-    ensures told { left (λ f. f) result (rest r.new) ≡ symbol_in (rest r.old) }
-    ensures on { OnOk result (count (rest r.new) < count (rest r.old)) }
+    ensures { Takes symbol_in (λ f. f) r.old r.new result }
 {
     let t = r.next()?;
     match t.token {
@@ -121,8 +115,7 @@ pub fn any_symbol<'a>(r: &mut Reader<'a>) -> Result<Found, GrammarFault>
 
 // This keyword or mark and no other.
 pub fn expect<'a>(r: &mut Reader<'a>, wanted: Symbol) -> Result<(), GrammarFault>
-    ensures told { left (λ u. u) result (rest r.new) ≡ expect_in wanted (rest r.old) }
-    ensures on { OnOk result (count (rest r.new) < count (rest r.old)) }
+    ensures { Takes (expect_in wanted) (λ u. u) r.old r.new result }
 {
     any_symbol(r)?.must_be(wanted)
 }
@@ -140,8 +133,7 @@ pub fn finish<'a>(r: &mut Reader<'a>) -> Result<(), GrammarFault>
 
 // A minus or a number.
 pub fn value_start<'a>(r: &mut Reader<'a>) -> Result<ValueStart, GrammarFault>
-    ensures told { left (λ s. s) result (rest r.new) ≡ value_start_in (rest r.old) }
-    ensures on { OnOk result (count (rest r.new) < count (rest r.old)) }
+    ensures { Takes value_start_in (λ s. s) r.old r.new result }
 {
     let t = r.next()?;
     start_of(t).ok_or(GrammarFault::NotAllowed(t.place))
@@ -149,8 +141,7 @@ pub fn value_start<'a>(r: &mut Reader<'a>) -> Result<ValueStart, GrammarFault>
 
 // A name, a string, a minus or a number: the start of the value, where a value is set.
 pub fn setter_value<'a>(r: &mut Reader<'a>) -> Result<Option<ValueStart>, GrammarFault>
-    ensures told { left (λ s. s) result (rest r.new) ≡ setting_in (rest r.old) }
-    ensures on { OnOk result (count (rest r.new) < count (rest r.old)) }
+    ensures { Takes setting_in (λ s. s) r.old r.new result }
 {
     let t = r.next()?;
     match t.token {
@@ -161,8 +152,7 @@ pub fn setter_value<'a>(r: &mut Reader<'a>) -> Result<Option<ValueStart>, Gramma
 
 // Whether a name stands here, or a closing brace.
 pub fn name_or_close<'a>(r: &mut Reader<'a>) -> Result<bool, GrammarFault>
-    ensures told { left (λ b. b) result (rest r.new) ≡ name_or_close_in (rest r.old) }
-    ensures on { OnOk result (count (rest r.new) < count (rest r.old)) }
+    ensures { Takes name_or_close_in (λ b. b) r.old r.new result }
 {
     let t = r.next()?;
     match t.token {

@@ -1,9 +1,6 @@
 // The version and the name of the plan.
 
-ghost use Rattle.std.specs.Prelude.{◌≡◌, ℕ, ◌<◌, OnOk};
-ghost use Rattle.tokens.specs.Terminals.{count};
-ghost use Rattle.tokens.specs.Reading.{rest};
-ghost use Rattle.refusals.specs.Steps.{ended};
+ghost use Rattle.refusals.specs.Steps.{Takes};
 ghost use Rattle.plan_file.specs.File.{header_in};
 
 use grammar::{Symbol, decimal, expect, name};
@@ -16,8 +13,7 @@ use tokens::Reader;
 
 // Version decimal ; TestPlan name ;
 pub fn header<'a>(r: &mut Reader<'a>) -> Result<Name, LoadFault>
-    ensures told { ended (λ x. x) result (rest r.new) ≡ header_in (rest r.old) }
-    ensures on { OnOk result (count (rest r.new) < count (rest r.old)) }
+    ensures { Takes header_in (λ x. x) r.old r.new result }
 {
     expect(r, Symbol::Keyword(Keyword::Version))?;
     let version = decimal(r)?;

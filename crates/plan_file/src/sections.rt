@@ -1,11 +1,9 @@
 // What follows the bins.
 
-ghost use Rattle.std.specs.Prelude.{◌≡◌, ℕ, ◌<◌, OnOk};
+ghost use Rattle.std.specs.Prelude.{ℕ};
 ghost use Rattle.keywords.specs.declared.Keyword.TheVariants as kw;
-ghost use Rattle.tokens.specs.Terminals.{count};
-ghost use Rattle.tokens.specs.Reading.{rest};
 ghost use Rattle.plan.specs.Drafts.{drafted};
-ghost use Rattle.refusals.specs.Steps.{ended};
+ghost use Rattle.refusals.specs.Steps.{Takes};
 ghost use Rattle.refusals.specs.Shapes.{is_keyword, optional};
 ghost use Rattle.productions.specs.Desks.{Reads, MayRead, rows};
 ghost use Rattle.declarations.specs.Counters.{counters_in};
@@ -71,8 +69,7 @@ fn maybe_counters<'a, 't>(desk: &mut Desk<'a, 't>, first: Found) -> Result<Found
 
 // The name of the main flow.
 fn main_name<'a>(r: &mut Reader<'a>, text: &[u8], t: &Tables) -> Result<usize, LoadFault>
-    ensures told { ended (λ x. x) result (rest r.new) ≡ main_name_in text.now (drafted t.now) (rest r.old) }
-    ensures on { OnOk result (count (rest r.new) < count (rest r.old)) }
+    ensures { Takes (main_name_in text.now (drafted t.now)) (λ x. x) r.old r.new result }
 {
     let n = name(r)?;
     if let Some(f) = find(t.flows.as_slice(), text, n.bytes) {

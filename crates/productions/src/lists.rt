@@ -1,9 +1,8 @@
 // Lists: entries with commas between them, and the mark that ends the list.
 
-ghost use Rattle.std.specs.Prelude.{◌≡◌, ℕ, ◌<◌, List, OnOk};
-ghost use Rattle.tokens.specs.Terminals.{Tokens, count};
-ghost use Rattle.tokens.specs.Reading.{rest};
-ghost use Rattle.grammar.specs.Readers.{left};
+ghost use Rattle.std.specs.Prelude.{ℕ, List};
+ghost use Rattle.tokens.specs.Terminals.{Tokens};
+ghost use Rattle.grammar.specs.Readers.{Takes};
 ghost use Rattle.plan.specs.Drafts.{Draft};
 ghost use Rattle.refusals.specs.Shapes.{another_in};
 ghost use Rattle.refusals.specs.Steps.{Loaded};
@@ -25,8 +24,7 @@ pub trait Entry {
 
 // Whether a comma stands here, so that another entry follows, or the last mark.
 pub fn another<'a>(r: &mut Reader<'a>, last: Mark) -> Result<bool, GrammarFault>
-    ensures told { left (λ more. more) result (rest r.new) ≡ another_in last (rest r.old) }
-    ensures on { OnOk result (count (rest r.new) < count (rest r.old)) }
+    ensures { Takes (another_in last) (λ more. more) r.old r.new result }
 {
     let next = any_symbol(r)?;
     if next.is_mark(Mark::Comma) {

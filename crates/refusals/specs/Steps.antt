@@ -1,5 +1,7 @@
 -- How productions follow one another: what each reads, the tokens that it leaves, or the fault at which all stops.
-use Rattle.std.specs.Prelude.{ℕ, zero, suc, Bool, cond, Ok, Err, Result}
+use Rattle.std.specs.Prelude.{◌≡◌, ℕ, zero, suc, ◌<◌, ◌≤◌, Bool, cond, Ok, Err, Result, OnOk}
+use Rattle.tokens.specs.declared.reader.Reader.{Reader}
+use Rattle.tokens.specs.Reading.{rest}
 use Rattle.tokens.specs.Terminals.{Tokens, count}
 use Rattle.grammar.specs.declared.fault.GrammarFault.TheVariants.{NotAllowed}
 use Rattle.grammar.specs.Readers.{Parsed}
@@ -32,6 +34,16 @@ allow ok place next = cond ok next (Err (Grammar (NotAllowed place)))
 abbrev pub ended : {X Y : Type 0} → (X → Y) → Result X LoadFault → Tokens → Loaded Y
 ended f (Ok x) ts = Ok (f x, ts)
 ended f (Err e) ts = Err e
+
+-- the answer, seen so, and the tokens left are what the definition gives; a token was taken
+pub record Takes {X Y : Type 0} (gives : Tokens → Loaded Y) (seen : X → Y) (before after : Reader) (answer : Result X LoadFault) : Type 0 where
+  pub told : ended seen answer (rest after) ≡ gives (rest before)
+  pub on : OnOk answer (count (rest after) < count (rest before))
+
+-- the same where it may be that none was taken
+pub record MayTake {X Y : Type 0} (gives : Tokens → Loaded Y) (seen : X → Y) (before after : Reader) (answer : Result X LoadFault) : Type 0 where
+  pub told : ended seen answer (rest after) ≡ gives (rest before)
+  pub on : OnOk answer (count (rest after) ≤ count (rest before))
 
 -- turns until one says that it was the last; each but the last takes a token at least, so fuel that is more than the
 -- tokens left suffices

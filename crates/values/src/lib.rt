@@ -2,10 +2,8 @@
 
 #![tactic(auto)]
 
-ghost use Rattle.std.specs.Prelude.{◌≡◌, ℕ, ◌<◌, ◌≤◌, OnOk};
-ghost use Rattle.tokens.specs.Terminals.{count};
-ghost use Rattle.tokens.specs.Reading.{rest};
-ghost use Rattle.refusals.specs.Steps.{ended};
+ghost use Rattle.std.specs.Prelude.{◌≡◌};
+ghost use Rattle.refusals.specs.Steps.{Takes, MayTake};
 ghost use Rattle.plan.specs.Values.{value_of};
 ghost use Rattle.values.specs.Values.{placed_value, value_from, value_in};
 
@@ -31,8 +29,7 @@ fn in_range(n: i64, place: usize) -> Result<ReadValue, LoadFault>
 
 // The value that has begun so.
 pub fn value_from<'a>(r: &mut Reader<'a>, start: ValueStart) -> Result<ReadValue, LoadFault>
-    ensures told { ended (λ x. x) result (rest r.new) ≡ value_from start (rest r.old) }
-    ensures on { OnOk result (count (rest r.new) ≤ count (rest r.old)) }
+    ensures { MayTake (value_from start) (λ x. x) r.old r.new result }
 {
     match start {
         ValueStart::Minus(_) => {
@@ -45,8 +42,7 @@ pub fn value_from<'a>(r: &mut Reader<'a>, start: ValueStart) -> Result<ReadValue
 
 // [-] number
 pub fn value<'a>(r: &mut Reader<'a>) -> Result<ReadValue, LoadFault>
-    ensures told { ended (λ x. x) result (rest r.new) ≡ value_in (rest r.old) }
-    ensures on { OnOk result (count (rest r.new) < count (rest r.old)) }
+    ensures { Takes value_in (λ x. x) r.old r.new result }
 {
     let start = value_start(r)?;
     value_from(r, start)

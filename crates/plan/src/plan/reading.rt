@@ -10,7 +10,7 @@ ghost use Rattle.plan.specs.Plans.{draft_of, text_of, means};
 
 use crate::parts::part_of;
 use crate::plan::Plan;
-use crate::rows::{Bin, Clause, Counter, Flow, Group, Item, Name, Test, Value};
+use crate::rows::{Bin, Flow, Item, Name};
 
 impl Plan {
     // Either nothing is in the plan, or it keeps every rule.
@@ -57,24 +57,6 @@ impl Plan {
         self.tables.items.len()
     }
 
-    pub fn group(&self, i: usize) -> Option<Group>
-        ensures { result ≡ slice_get (draft_of self.now).groups i }
-    {
-        self.tables.groups.get(i)
-    }
-
-    pub fn counter(&self, i: usize) -> Option<Counter>
-        ensures { result ≡ slice_get (draft_of self.now).counters i }
-    {
-        self.tables.counters.get(i)
-    }
-
-    pub fn test(&self, i: usize) -> Option<Test>
-        ensures { result ≡ slice_get (draft_of self.now).tests i }
-    {
-        self.tables.tests.get(i)
-    }
-
     #[tactic(auto, using(crate::proofs::Readings::bin_meant_lem))]
     pub fn bin(&self, i: usize) -> Option<Bin>
         ensures held { result ≡ slice_get (draft_of self.now).bins i }
@@ -103,25 +85,6 @@ impl Plan {
         ensures meant { option_map (item_of (draft_of self.now)) result ≡ slice_get (means self.now).items i }
     {
         self.tables.items.get(i)
-    }
-
-    pub fn clause(&self, i: usize) -> Option<Clause>
-        ensures { result ≡ slice_get (draft_of self.now).clauses i }
-    {
-        self.tables.clauses.get(i)
-    }
-
-    pub fn value(&self, i: usize) -> Option<Value>
-        ensures { result ≡ slice_get (draft_of self.now).values i }
-    {
-        self.tables.values.get(i)
-    }
-
-    // The counter that is named there.
-    pub fn mention(&self, i: usize) -> Option<usize>
-        ensures { result ≡ slice_get (draft_of self.now).mentions i }
-    {
-        self.tables.mentions.get(i)
     }
 
     // The main flow, which is a flow of the plan; the empty plan has none.
