@@ -25,7 +25,7 @@ def code_of(text):
     for line in text.split("\n"):
         bare = line.strip()
         if bare.startswith(("//", "ghost ", "requires", "ensures", "#![", "#[tactic")):
-            line = ""
+            line = ";" if bare.endswith(";") and bare.startswith("ensures") else ""
         out.append(line)
     return "\n".join(out)
 

@@ -1,6 +1,6 @@
 // accepted: NAME: how much of each the plan holds
 
-use plan::Plan;
+use plan::{Plan, Sizes};
 use std::fmt;
 
 // A plan that was loaded.
@@ -11,15 +11,17 @@ impl fmt::Display for Accepted<'_> {
     fn fmt<W: fmt::Write>(&self, f: &mut fmt::Formatter<W>) -> fmt::Result {
         let plan = self.0;
         let name = std::str::from_utf8(plan.name(plan.title)).unwrap_or("");
+        let Sizes {
+            groups,
+            bins,
+            counters,
+            tests,
+            flows,
+            items,
+        } = plan.sizes();
         write!(
             f,
-            "accepted: {name}: {} groups, {} bins, {} counters, {} tests, {} flows, {} items",
-            plan.group_count(),
-            plan.bin_count(),
-            plan.counter_count(),
-            plan.test_count(),
-            plan.flow_count(),
-            plan.item_count()
+            "accepted: {name}: {groups} groups, {bins} bins, {counters} counters, {tests} tests, {flows} flows, {items} items"
         )
     }
 }

@@ -5,21 +5,6 @@ use refusals::RuleFault;
 use std::fmt;
 use token_words::Excerpt;
 
-fn say_out_of_range<W: fmt::Write>(at: Excerpt<'_>, f: &mut fmt::Formatter<W>) -> fmt::Result {
-    match at {
-        Excerpt::Quoted(_) => write!(f, "a PassFail string is \"Pass\" or \"Fail\", and not {at}"),
-        Excerpt::Digits(digits) if digits.contains('.') => {
-            write!(f, "this version is {at}; write 1.0")
-        }
-        _ => {
-            write!(
-                f,
-                "{at} is out of range; a bin number is at most 65535, a value lies in -32768 to 32767"
-            )
-        }
-    }
-}
-
 // What there is too much of, by the word at which its table was full.
 fn full_at(word: &str) -> &'static str {
     match keyword_of(word.as_bytes()) {
@@ -40,18 +25,44 @@ fn full(at: Excerpt<'_>) -> &'static str {
     }
 }
 
-fn say_wrong_kind<W: fmt::Write>(at: Excerpt<'_>, f: &mut fmt::Formatter<W>) -> fmt::Result {
-    write!(
-        f,
-        "{at} is declared as something else; a parent is declared with Bin, SetBin names a LeafBin of the group before it, MainFlow names a flow"
-    )
-}
-
-fn say_repeated<W: fmt::Write>(at: Excerpt<'_>, f: &mut fmt::Formatter<W>) -> fmt::Result {
-    write!(
-        f,
-        "{at} stands there already; a group has each bin number once, an item lists each value once, a clause names each counter once"
-    )
+// What is said before the word at fault and behind it; a full table is told without the word.
+fn around(fault: RuleFault) -> Option<(&'static str, &'static str)> {
+    let said = match fault {
+        RuleFault::DeclaredBefore(_) => (
+            "",
+            "was declared before; give one of the two another name",
+        ),
+        RuleFault::NotDeclared(_) => (
+            "",
+            "is not declared, or not yet; mend its spelling, or declare it earlier",
+        ),
+        RuleFault::WrongKind(_) => (
+            "",
+            "is declared as something else; a parent is declared with Bin, SetBin names a LeafBin of the group before it, MainFlow names a flow",
+        ),
+        RuleFault::OutOfRange(_) => (
+            "",
+            "is out of range; a bin number is at most 65535, a value lies in -32768 to 32767",
+        ),
+        RuleFault::Repeated(_) => (
+            "",
+            "stands there already; a group has each bin number once, an item lists each value once, a clause names each counter once",
+        ),
+        RuleFault::TableFull(_) => return None,
+        RuleFault::ReturnNotListed(_) => (
+            "the item ",
+            "does not list every value that its flow returns; add a Result clause for each",
+        ),
+        RuleFault::TooDeep(_) => (
+            "running ",
+            "here nests flows more than 8 deep; run its items without it",
+        ),
+        RuleFault::NoSortBin(_) => (
+            "the leaf bin ",
+            "has no bin of the sort group at or above it; give it such a parent",
+        ),
+    };
+    Some(said)
 }
 
 pub fn say_rule<W: fmt::Write>(
@@ -59,40 +70,16 @@ pub fn say_rule<W: fmt::Write>(
     at: Excerpt<'_>,
     f: &mut fmt::Formatter<W>,
 ) -> fmt::Result {
-    match fault {
-        RuleFault::DeclaredBefore(_) => {
-            write!(
-                f,
-                "{at} was declared before; give one of the two another name"
-            )
+    let Some((before, behind)) = around(fault) else {
+        return f.write_str(full(at));
+    };
+    match (fault, at) {
+        (RuleFault::OutOfRange(_), Excerpt::Quoted(_)) => {
+            write!(f, "a PassFail string is \"Pass\" or \"Fail\", and not {at}")
         }
-        RuleFault::NotDeclared(_) => {
-            write!(
-                f,
-                "{at} is not declared, or not yet; mend its spelling, or declare it earlier"
-            )
+        (RuleFault::OutOfRange(_), Excerpt::Digits(digits)) if digits.contains('.') => {
+            write!(f, "this version is {at}; write 1.0")
         }
-        RuleFault::WrongKind(_) => say_wrong_kind(at, f),
-        RuleFault::OutOfRange(_) => say_out_of_range(at, f),
-        RuleFault::Repeated(_) => say_repeated(at, f),
-        RuleFault::TableFull(_) => f.write_str(full(at)),
-        RuleFault::ReturnNotListed(_) => {
-            write!(
-                f,
-                "the item {at} does not list every value that its flow returns; add a Result clause for each"
-            )
-        }
-        RuleFault::TooDeep(_) => {
-            write!(
-                f,
-                "running {at} here nests flows more than 8 deep; run its items without it"
-            )
-        }
-        RuleFault::NoSortBin(_) => {
-            write!(
-                f,
-                "the leaf bin {at} has no bin of the sort group at or above it; give it such a parent"
-            )
-        }
+        _ => write!(f, "{before}{at} {behind}"),
     }
 }

@@ -36,7 +36,7 @@ fn setter_turn<'a>(r: &mut Reader<'a>) -> Result<bool, LoadFault>
     Ok(name_or_close(r)?)
 }
 
-// setter+ }   behind the name of the first
+// setter+ }   behind the name of the first. No list of entries is like it: what goes on is the next setter's name.
 fn setters_on<'a>(r: &mut Reader<'a>) -> Result<(), LoadFault>
     ensures { MayTake (many setter_turn tt) (λ u. u) r.old r.new result }
 {

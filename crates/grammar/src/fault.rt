@@ -12,6 +12,7 @@ pub enum GrammarFault {
     NotAllowed(usize),
 }
 
+// Written and not derived, so that its contract tells the case.
 impl From<TokenFault> for GrammarFault {
     ghost from_gives = { λ e r. r ≡ Token e };
 

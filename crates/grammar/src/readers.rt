@@ -1,4 +1,5 @@
-// Readers of one token.
+// Readers of one token. Each is a match of its own: one reader that is given as a closure what to take has the same arms, and
+// a contract about the closure, which each of its callers would have to prove.
 
 ghost use Rattle.std.specs.Prelude.{◌≡◌};
 ghost use Rattle.tokens.specs.Reading.{rest};

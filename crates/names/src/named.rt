@@ -1,4 +1,4 @@
-// Rows that have a name.
+// Rows that have a name. Each type says which of its fields that is.
 
 ghost use Rattle.std.specs.Prelude.{◌≡◌};
 ghost use Rattle.plan.specs.declared.rows.Name.{Name};

@@ -12,7 +12,7 @@ mod values;
 pub use parts::part_of;
 pub use plan::{MOST_BYTES, Plan, first_of_group};
 pub use rows::{
-    Bin, Clause, Counter, Flow, Group, Item, Name, Next, Runs, Span, Test, Value, Verdict,
+    Bin, Clause, Counter, Flow, Group, Item, Name, Next, Runs, Sizes, Span, Test, Value, Verdict,
 };
 pub use table::Table;
 pub use tables::{

@@ -3,14 +3,15 @@
 ghost use Rattle.std.specs.Prelude.{◌≡◌};
 ghost use Rattle.plan.specs.Meaning.{rows_of};
 
-// A part of the plan text.
+// A part of the plan text, by where it stands: a plan holds its own text, so a row cannot borrow from it.
 #[derive(Clone, Copy)]
 pub struct Name {
     pub place: usize,
     pub len: usize,
 }
 
-// The rows from `from` up to `to`, without it, of another table.
+// The rows from `from` up to `to`, without it, of another table. All memory of a plan is asked for at once, so no row has a
+// vector of its own.
 #[derive(Clone, Copy)]
 pub struct Span {
     pub from: usize,
@@ -27,7 +28,8 @@ impl Span {
     }
 }
 
-// A result value from -32768 to 32767, held as the value and 32768 more.
+// A result value from -32768 to 32767, held as the value and 32768 more: what the rules say of values, they say of natural
+// numbers.
 #[derive(Clone, Copy, PartialEq, Eq)]
 pub struct Value {
     pub code: u16,
@@ -101,4 +103,15 @@ pub struct Flow {
     pub name: Name,
     pub items: Span,
     pub depth: usize,
+}
+
+// How many rows of each kind a plan has.
+#[derive(Clone, Copy, Debug, PartialEq, Eq)]
+pub struct Sizes {
+    pub groups: usize,
+    pub bins: usize,
+    pub counters: usize,
+    pub tests: usize,
+    pub flows: usize,
+    pub items: usize,
 }

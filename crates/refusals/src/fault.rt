@@ -35,6 +35,7 @@ pub enum LoadFault {
     Rule(RuleFault),
 }
 
+// Written and not derived, so that their contracts tell the case.
 impl From<GrammarFault> for LoadFault {
     ghost from_gives = { λ e r. r ≡ Grammar e };
 

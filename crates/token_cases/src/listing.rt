@@ -21,6 +21,7 @@ impl fmt::Display for Entry<'_> {
             Token::Number(n) => write!(f, "number {n}"),
             Token::Decimal(bytes) => write!(f, "decimal {}", word(bytes)),
             Token::Quoted(bytes) => write!(f, "string {}", word(bytes)),
+            // the table writes marks by their numbers
             Token::Mark(m) => write!(f, "mark {}", m as u8),
             Token::End => write!(f, "end"),
         }

@@ -10,51 +10,35 @@ ghost use Rattle.plan.specs.Plans.{draft_of, text_of, means};
 
 use crate::parts::part_of;
 use crate::plan::Plan;
-use crate::rows::{Bin, Flow, Item, Name};
+use crate::rows::{Bin, Flow, Item, Name, Sizes};
 
+// Rows and their numbers as the tables have them are told by the tables. The calls here promise what the plan means by them.
 impl Plan {
     // Either nothing is in the plan, or it keeps every rule.
     pub fn is_empty(&self) -> bool
         ensures empty { result ≡ true → means self.now ≡ nothing }
         ensures lawful { result ≡ false → ∥ Lawful (means self.now) ∥₁ }
     {
-        self.flow_count() == 0
+        self.sizes().flows == 0
     }
 
-    pub fn group_count(&self) -> usize
-        ensures { result ≡ length (draft_of self.now).groups }
+    // How much of each the plan holds.
+    pub fn sizes(&self) -> Sizes
+        ensures groups { result.groups ≡ length (draft_of self.now).groups }
+        ensures bins { result.bins ≡ length (means self.now).bins }
+        ensures counters { result.counters ≡ (means self.now).counters }
+        ensures tests { result.tests ≡ (means self.now).tests }
+        ensures flows { result.flows ≡ length (means self.now).flows }
+        ensures items { result.items ≡ length (means self.now).items }
     {
-        self.tables.groups.len()
-    }
-
-    pub fn bin_count(&self) -> usize
-        ensures { result ≡ length (means self.now).bins }
-    {
-        self.tables.bins.len()
-    }
-
-    pub fn counter_count(&self) -> usize
-        ensures { result ≡ (means self.now).counters }
-    {
-        self.tables.counters.len()
-    }
-
-    pub fn test_count(&self) -> usize
-        ensures { result ≡ (means self.now).tests }
-    {
-        self.tables.tests.len()
-    }
-
-    pub fn flow_count(&self) -> usize
-        ensures { result ≡ length (means self.now).flows }
-    {
-        self.tables.flows.len()
-    }
-
-    pub fn item_count(&self) -> usize
-        ensures { result ≡ length (means self.now).items }
-    {
-        self.tables.items.len()
+        Sizes {
+            groups: self.tables.groups.len(),
+            bins: self.tables.bins.len(),
+            counters: self.tables.counters.len(),
+            tests: self.tables.tests.len(),
+            flows: self.tables.flows.len(),
+            items: self.tables.items.len(),
+        }
     }
 
     #[tactic(auto, using(crate::proofs::Readings::bin_meant_lem))]

@@ -1,7 +1,0 @@
-use Rattle.std.proofs.Common.{◌∙◌}
-use Rattle.plan.specs.Plans.{draft_of}
-use Rattle.plan.proofs.Readings.{counters_counted}
-use Rattle.plan.proofs.plan.Plan.counter_count.Goals as goal
-
-pub returns : goal.returns
-returns c = c.len.ensures ∙ counters_counted (draft_of c.args.self.now)
