@@ -9,7 +9,7 @@ ghost use Rattle.bins.specs.Bins.{number_taken, bin_number_in, leaf_at, parent_i
 use grammar::{Found, Symbol, any_symbol, expect, name, number, string};
 use keywords::Keyword;
 use plan::Bin;
-use productions::{Desk, Row, declared, fresh};
+use productions::{Desk, Row, declared, fresh, room};
 use refusals::{LoadFault, RuleFault};
 use text_bytes::Mark;
 use tokens::Reader;
@@ -77,9 +77,7 @@ impl Row for BinRow {
 
     fn read<'a, 't>(&self, desk: &mut Desk<'a, 't>, next: Found) -> Result<(), LoadFault> {
         let t = &mut *desk.tables;
-        if t.bins.is_full() {
-            return Err(RuleFault::TableFull(next.place).into());
-        }
+        room(&t.bins, next.place)?;
         let word = name(&mut desk.reader)?;
         let name = fresh(t.bins.as_slice(), desk.text, word)?;
         let number = bin_number(&mut desk.reader, t.bins.as_slice(), self.group)?;

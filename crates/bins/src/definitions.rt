@@ -1,6 +1,6 @@
 // The definitions of all bins.
 
-ghost use Rattle.productions.specs.Desks.{Reads, rows};
+ghost use Rattle.productions.specs.Desks.{Produces, rows};
 ghost use Rattle.bins.specs.Bins.{sort_group_in, definitions_in, bins_in};
 
 use crate::group::GroupRow;
@@ -13,7 +13,7 @@ use text_bytes::Mark;
 
 // = name ; }
 fn sort_group<'a, 't>(desk: &mut Desk<'a, 't>) -> Result<(), LoadFault>
-    ensures { Reads sort_group_in (λ _. rows desk.new) desk.old desk.new result }
+    ensures { Produces sort_group_in (λ _. rows desk.new) desk.old desk.new result }
 {
     expect(&mut desk.reader, Symbol::Mark(Mark::Equals))?;
     let word = name(&mut desk.reader)?;
@@ -30,7 +30,7 @@ fn sort_group<'a, 't>(desk: &mut Desk<'a, 't>) -> Result<(), LoadFault>
 
 // { group+ SortBinGroup = name ; }
 fn definitions<'a, 't>(desk: &mut Desk<'a, 't>) -> Result<(), LoadFault>
-    ensures { Reads definitions_in (λ _. rows desk.new) desk.old desk.new result }
+    ensures { Produces definitions_in (λ _. rows desk.new) desk.old desk.new result }
 {
     expect(&mut desk.reader, Symbol::Mark(Mark::OpenBrace))?;
     let first = any_symbol(&mut desk.reader)?;
@@ -42,7 +42,7 @@ fn definitions<'a, 't>(desk: &mut Desk<'a, 't>) -> Result<(), LoadFault>
 // BinDefs { group+ SortBinGroup = name ; }
 #[tactic(auto, unfolding(crate::specs::Bins::bins_in))]
 pub fn bins<'a, 't>(desk: &mut Desk<'a, 't>) -> Result<(), LoadFault>
-    ensures { Reads bins_in (λ _. rows desk.new) desk.old desk.new result }
+    ensures { Produces bins_in (λ _. rows desk.new) desk.old desk.new result }
 {
     expect(&mut desk.reader, Symbol::Keyword(Keyword::BinDefs))?;
     definitions(desk)

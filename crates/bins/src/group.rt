@@ -6,8 +6,8 @@ use crate::bin::BinRow;
 use grammar::{Found, name};
 use keywords::Keyword;
 use plan::Group;
-use productions::{Desk, Row, braced, fresh};
-use refusals::{LoadFault, RuleFault};
+use productions::{Desk, Row, braced, fresh, room};
+use refusals::LoadFault;
 
 #[derive(Clone, Copy)]
 pub struct GroupRow;
@@ -25,9 +25,7 @@ impl Row for GroupRow {
     fn read<'a, 't>(&self, desk: &mut Desk<'a, 't>, next: Found) -> Result<(), LoadFault> {
         let t = &mut *desk.tables;
         let group = t.groups.len();
-        if t.groups.is_full() {
-            return Err(RuleFault::TableFull(next.place).into());
-        }
+        room(&t.groups, next.place)?;
         let word = name(&mut desk.reader)?;
         let name = fresh(t.groups.as_slice(), desk.text, word)?;
         t.groups.add(Group { name });

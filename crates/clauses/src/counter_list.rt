@@ -1,13 +1,13 @@
 // The counters of a clause.
 
 ghost use Rattle.std.specs.Prelude.{◌≡◌, length, drop};
-ghost use Rattle.productions.specs.Desks.{Reads, MayRead, rows};
+ghost use Rattle.productions.specs.Desks.{Produces, MayProduce, rows};
 ghost use Rattle.clauses.specs.Parts.{among};
 ghost use Rattle.clauses.specs.Clauses.{mention_in, mentions_in, counters_in};
 
 use grammar::{Found, any_symbol, name};
 use keywords::Keyword;
-use productions::{Desk, Entry, declared, list};
+use productions::{Desk, Entry, declared, list, room};
 use refusals::{LoadFault, RuleFault};
 use text_bytes::Mark;
 
@@ -34,9 +34,7 @@ impl Entry for Mention {
         if names_counter(t.mentions.as_slice(), self.from, counter) {
             return Err(RuleFault::Repeated(word.place).into());
         }
-        if t.mentions.is_full() {
-            return Err(RuleFault::TableFull(word.place).into());
-        }
+        room(&t.mentions, word.place)?;
         t.mentions.add(counter);
         Ok(())
     }
@@ -44,7 +42,7 @@ impl Entry for Mention {
 
 // name (, name)* ;
 fn mentions<'a, 't>(desk: &mut Desk<'a, 't>) -> Result<(), LoadFault>
-    ensures { Reads (λ text d. mentions_in text (length d.mentions) d) (λ _. rows desk.new) desk.old desk.new result }
+    ensures { Produces (λ text d. mentions_in text (length d.mentions) d) (λ _. rows desk.new) desk.old desk.new result }
 {
     let t = &*desk.tables;
     let from = t.mentions.len();
@@ -53,7 +51,7 @@ fn mentions<'a, 't>(desk: &mut Desk<'a, 't>) -> Result<(), LoadFault>
 
 // [IncrementCounters name (, name)* ;] and the symbol behind it
 pub fn counters<'a, 't>(desk: &mut Desk<'a, 't>, next: Found) -> Result<Found, LoadFault>
-    ensures { MayRead (λ text d. counters_in text d next) (λ next. (rows desk.new, next)) desk.old desk.new result }
+    ensures { MayProduce (λ text d. counters_in text d next) (λ next. (rows desk.new, next)) desk.old desk.new result }
 {
     if !next.is_keyword(Keyword::IncrementCounters) {
         return Ok(next);

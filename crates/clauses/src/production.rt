@@ -3,7 +3,7 @@
 ghost use Rattle.std.specs.Prelude.{ℕ};
 ghost use Rattle.plan.specs.Drafts.{drafted};
 ghost use Rattle.refusals.specs.Steps.{Takes};
-ghost use Rattle.productions.specs.Desks.{Reads, rows};
+ghost use Rattle.productions.specs.Desks.{Produces, rows};
 ghost use Rattle.clauses.specs.Clauses.{end_in, body_in, clause_in};
 
 use crate::counter_list::counters;
@@ -13,8 +13,8 @@ use crate::verdicts::verdict;
 use crate::ways::next;
 use grammar::{Found, Symbol, any_symbol, expect};
 use plan::{Clause, Next, Span, Tables};
-use productions::Desk;
-use refusals::{LoadFault, RuleFault};
+use productions::{Desk, room};
+use refusals::LoadFault;
 use text_bytes::Mark;
 use tokens::Reader;
 
@@ -35,7 +35,7 @@ fn end<'a>(
 
 // [Property ..] [IncrementCounters ..] [SetBin ..] (GoTo .. | Return ..) }, and the row of the clause that lists these values
 fn body<'a, 't>(desk: &mut Desk<'a, 't>, values: Span) -> Result<Clause, LoadFault>
-    ensures { Reads (λ text. body_in text values) (λ row. (rows desk.new, row)) desk.old desk.new result }
+    ensures { Produces (λ text. body_in text values) (λ row. (rows desk.new, row)) desk.old desk.new result }
 {
     let t = &*desk.tables;
     let from = t.mentions.len();
@@ -61,12 +61,10 @@ fn body<'a, 't>(desk: &mut Desk<'a, 't>, values: Span) -> Result<Clause, LoadFau
 // for the item whose values begin at the row `first`.
 #[tactic(auto, unfolding(crate::specs::Clauses::clause_in))]
 pub fn clause<'a, 't>(desk: &mut Desk<'a, 't>, first: usize, place: usize) -> Result<(), LoadFault>
-    ensures { Reads (λ text. clause_in text place first) (λ _. rows desk.new) desk.old desk.new result }
+    ensures { Produces (λ text. clause_in text place first) (λ _. rows desk.new) desk.old desk.new result }
 {
     let t = &*desk.tables;
-    if t.clauses.is_full() {
-        return Err(RuleFault::TableFull(place).into());
-    }
+    room(&t.clauses, place)?;
     let from = t.values.len();
     values(desk, first)?;
     let t = &*desk.tables;

@@ -4,13 +4,13 @@ ghost use Rattle.std.specs.Prelude.{◌≡◌, drop};
 ghost use Rattle.plan.specs.Drafts.{drafted};
 ghost use Rattle.plan.specs.Meaning.{code_of};
 ghost use Rattle.refusals.specs.Steps.{Takes};
-ghost use Rattle.productions.specs.Desks.{Reads, rows};
+ghost use Rattle.productions.specs.Desks.{Produces, rows};
 ghost use Rattle.clauses.specs.Parts.{among};
 ghost use Rattle.clauses.specs.Clauses.{start_in, listed_in, values_in};
 
 use grammar::{ValueStart, value_start};
 use plan::{Tables, Value};
-use productions::{Desk, Entry, list};
+use productions::{Desk, Entry, list, room};
 use refusals::{LoadFault, RuleFault};
 use text_bytes::Mark;
 use tokens::Reader;
@@ -51,9 +51,7 @@ impl Entry for ListedValue {
         if lists_value(t.values.as_slice(), self.first, v.value) {
             return Err(RuleFault::Repeated(v.place).into());
         }
-        if t.values.is_full() {
-            return Err(RuleFault::TableFull(v.place).into());
-        }
+        room(&t.values, v.place)?;
         t.values.add(v.value);
         Ok(())
     }
@@ -61,7 +59,7 @@ impl Entry for ListedValue {
 
 // value (, value)* {
 pub fn values<'a, 't>(desk: &mut Desk<'a, 't>, first: usize) -> Result<(), LoadFault>
-    ensures { Reads (λ _. values_in first) (λ _. rows desk.new) desk.old desk.new result }
+    ensures { Produces (λ _. values_in first) (λ _. rows desk.new) desk.old desk.new result }
 {
     list(&ListedValue { first }, desk, Mark::OpenBrace)
 }

@@ -1,12 +1,12 @@
 // The counters.
 
-ghost use Rattle.productions.specs.Desks.{Reads, rows};
+ghost use Rattle.productions.specs.Desks.{Produces, rows};
 ghost use Rattle.declarations.specs.Counters.{counter_in, counters_in};
 
 use grammar::{Symbol, expect, name};
 use plan::Counter;
-use productions::{Desk, Entry, fresh, list};
-use refusals::{LoadFault, RuleFault};
+use productions::{Desk, Entry, fresh, list, room};
+use refusals::LoadFault;
 use text_bytes::Mark;
 
 #[derive(Clone, Copy)]
@@ -19,9 +19,7 @@ impl Entry for CounterName {
         let word = name(&mut desk.reader)?;
         let t = &mut *desk.tables;
         let name = fresh(t.counters.as_slice(), desk.text, word)?;
-        if t.counters.is_full() {
-            return Err(RuleFault::TableFull(word.place).into());
-        }
+        room(&t.counters, word.place)?;
         t.counters.add(Counter { name });
         Ok(())
     }
@@ -30,7 +28,7 @@ impl Entry for CounterName {
 // { name (, name)* }
 #[tactic(auto, unfolding(crate::specs::Counters::counters_in))]
 pub fn counters<'a, 't>(desk: &mut Desk<'a, 't>) -> Result<(), LoadFault>
-    ensures { Reads counters_in (λ _. rows desk.new) desk.old desk.new result }
+    ensures { Produces counters_in (λ _. rows desk.new) desk.old desk.new result }
 {
     expect(&mut desk.reader, Symbol::Mark(Mark::OpenBrace))?;
     list(&CounterName, desk, Mark::CloseBrace)

@@ -4,13 +4,13 @@ ghost use Rattle.std.specs.Prelude.{◌≡◌, ℕ, ◌+◌, ◌≤◌, IfOk, if
 ghost use Rattle.tokens.specs.Terminals.{count};
 ghost use Rattle.tokens.specs.Reading.{rest};
 ghost use Rattle.refusals.specs.Steps.{Takes, MayTake, ended, many};
-ghost use Rattle.productions.specs.Desks.{Reads, rows};
+ghost use Rattle.productions.specs.Desks.{Produces, rows};
 ghost use Rattle.declarations.specs.Tests.{setting_in, setter_turn, setters_in, test_in};
 
 use grammar::{Symbol, expect, name, name_or_close, setter_value};
 use plan::Test;
-use productions::{Desk, is_runnable, named};
-use refusals::{LoadFault, RuleFault};
+use productions::{Desk, fresh_runnable, room};
+use refusals::LoadFault;
 use text_bytes::Mark;
 use tokens::Reader;
 use values::value_from;
@@ -56,23 +56,14 @@ fn setters<'a>(r: &mut Reader<'a>) -> Result<(), LoadFault>
 // name name { setter+ }: the class, which may be any name, the test's own name, and what it sets
 #[tactic(auto, unfolding(crate::specs::Tests::test_in))]
 pub fn test<'a, 't>(desk: &mut Desk<'a, 't>, place: usize) -> Result<(), LoadFault>
-    ensures { Reads (λ text. test_in text place) (λ _. rows desk.new) desk.old desk.new result }
+    ensures { Produces (λ text. test_in text place) (λ _. rows desk.new) desk.old desk.new result }
 {
     let t = &mut *desk.tables;
-    if t.tests.is_full() {
-        return Err(RuleFault::TableFull(place).into());
-    }
+    room(&t.tests, place)?;
     name(&mut desk.reader)?;
     let word = name(&mut desk.reader)?;
-    if is_runnable(
-        t.tests.as_slice(),
-        t.flows.as_slice(),
-        desk.text,
-        word.bytes,
-    ) {
-        return Err(RuleFault::DeclaredBefore(word.place).into());
-    }
+    let name = fresh_runnable(t, desk.text, word)?;
     setters(&mut desk.reader)?;
-    t.tests.add(Test { name: named(word) });
+    t.tests.add(Test { name });
     Ok(())
 }

@@ -4,7 +4,7 @@ ghost use Rattle.std.specs.Prelude.{◌≡◌, ℕ, ◌+◌, ◌<◌, ◌≤◌,
 ghost use Rattle.keywords.specs.declared.Keyword.TheVariants as kw;
 ghost use Rattle.plan.specs.Drafts.{drafted};
 ghost use Rattle.refusals.specs.Shapes.{is_keyword};
-ghost use Rattle.productions.specs.Desks.{Reads, rows};
+ghost use Rattle.productions.specs.Desks.{Produces, rows};
 ghost use Rattle.flows.specs.Checks.{deepest, become};
 ghost use Rattle.flows.specs.Flows.{item_in, items_in, closed, flow_in};
 
@@ -13,8 +13,8 @@ use crate::items::item;
 use grammar::{Found, name};
 use keywords::Keyword;
 use plan::{Flow, Name, Span, Tables};
-use productions::{Desk, Row, braced, is_runnable, named};
-use refusals::{LoadFault, RuleFault};
+use productions::{Desk, Row, braced, fresh_runnable, room};
+use refusals::LoadFault;
 
 // An item of the flow whose items begin at the row `first`.
 #[derive(Clone, Copy)]
@@ -38,7 +38,7 @@ impl Row for ItemRow {
 
 // { item+ }
 fn items<'a, 't>(desk: &mut Desk<'a, 't>) -> Result<(), LoadFault>
-    ensures { Reads items_in (λ _. rows desk.new) desk.old desk.new result }
+    ensures { Produces items_in (λ _. rows desk.new) desk.old desk.new result }
 {
     let t = &*desk.tables;
     let first = t.items.len();
@@ -72,23 +72,14 @@ fn close_flow(
 // name { item+ } behind the keyword at `place`
 #[tactic(auto, unfolding(crate::specs::Flows::flow_in))]
 pub fn flow<'a, 't>(desk: &mut Desk<'a, 't>, place: usize) -> Result<(), LoadFault>
-    ensures { Reads (λ text. flow_in text place) (λ _. rows desk.new) desk.old desk.new result }
+    ensures { Produces (λ text. flow_in text place) (λ _. rows desk.new) desk.old desk.new result }
 {
     let t = &*desk.tables;
-    if t.flows.is_full() {
-        return Err(RuleFault::TableFull(place).into());
-    }
+    room(&t.flows, place)?;
     let word = name(&mut desk.reader)?;
-    if is_runnable(
-        t.tests.as_slice(),
-        t.flows.as_slice(),
-        desk.text,
-        word.bytes,
-    ) {
-        return Err(RuleFault::DeclaredBefore(word.place).into());
-    }
+    let name = fresh_runnable(t, desk.text, word)?;
     let first = t.items.len();
     let from = t.clauses.len();
     items(desk)?;
-    close_flow(desk.text, &mut *desk.tables, named(word), first, from)
+    close_flow(desk.text, &mut *desk.tables, name, first, from)
 }

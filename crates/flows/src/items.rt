@@ -5,7 +5,7 @@ ghost use Rattle.keywords.specs.declared.Keyword.TheVariants as kw;
 ghost use Rattle.plan.specs.Drafts.{drafted};
 ghost use Rattle.refusals.specs.Shapes.{is_keyword};
 ghost use Rattle.refusals.specs.Steps.{Takes};
-ghost use Rattle.productions.specs.Desks.{Reads, rows};
+ghost use Rattle.productions.specs.Desks.{Produces, rows};
 ghost use Rattle.clauses.specs.Clauses.{clause_in};
 ghost use Rattle.flows.specs.Flows.{clauses_in, runs_in, run_listed, item_in};
 
@@ -15,7 +15,7 @@ use grammar::{Found, name};
 use keywords::Keyword;
 use names::find;
 use plan::{Item, Runs, Span, Tables};
-use productions::{Desk, Row, braced, declared, fresh};
+use productions::{Desk, Row, braced, declared, fresh, room};
 use refusals::{LoadFault, RuleFault};
 use tokens::Reader;
 
@@ -44,7 +44,7 @@ impl Row for ClauseRow {
 
 // { clause+ }
 fn clauses<'a, 't>(desk: &mut Desk<'a, 't>) -> Result<(), LoadFault>
-    ensures { Reads clauses_in (λ _. rows desk.new) desk.old desk.new result }
+    ensures { Produces clauses_in (λ _. rows desk.new) desk.old desk.new result }
 {
     let t = &*desk.tables;
     let first = t.values.len();
@@ -82,12 +82,10 @@ fn run_listed(t: &Tables, first: usize, runs: Runs) -> bool
 
 // name name { clause+ } behind the keyword at `place`, in the flow whose items begin at the row `first`
 pub fn item<'a, 't>(desk: &mut Desk<'a, 't>, first: usize, place: usize) -> Result<(), LoadFault>
-    ensures { Reads (λ text. item_in text first place) (λ _. rows desk.new) desk.old desk.new result }
+    ensures { Produces (λ text. item_in text first place) (λ _. rows desk.new) desk.old desk.new result }
 {
     let t = &*desk.tables;
-    if t.items.is_full() {
-        return Err(RuleFault::TableFull(place).into());
-    }
+    room(&t.items, place)?;
     let word = name(&mut desk.reader)?;
     let name = fresh(rows_from(t.items.as_slice(), first), desk.text, word)?;
     let runs = read_runs(&mut desk.reader, desk.text, t)?;

@@ -6,7 +6,7 @@ ghost use Rattle.plan_file.specs.File.{header_in};
 use grammar::{Symbol, decimal, expect, name};
 use keywords::Keyword;
 use plan::Name;
-use productions::named;
+use productions::name_of;
 use refusals::{LoadFault, RuleFault};
 use text_bytes::Mark;
 use tokens::Reader;
@@ -24,5 +24,5 @@ pub fn header<'a>(r: &mut Reader<'a>) -> Result<Name, LoadFault>
     expect(r, Symbol::Keyword(Keyword::TestPlan))?;
     let title = name(r)?;
     expect(r, Symbol::Mark(Mark::Semicolon))?;
-    Ok(named(title))
+    Ok(name_of(title))
 }

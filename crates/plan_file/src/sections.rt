@@ -5,7 +5,7 @@ ghost use Rattle.keywords.specs.declared.Keyword.TheVariants as kw;
 ghost use Rattle.plan.specs.Drafts.{drafted};
 ghost use Rattle.refusals.specs.Steps.{Takes};
 ghost use Rattle.refusals.specs.Shapes.{is_keyword, optional};
-ghost use Rattle.productions.specs.Desks.{Reads, MayRead, rows};
+ghost use Rattle.productions.specs.Desks.{Produces, MayProduce, rows};
 ghost use Rattle.declarations.specs.Counters.{counters_in};
 ghost use Rattle.declarations.specs.Tests.{test_in};
 ghost use Rattle.flows.specs.Flows.{flow_in};
@@ -58,7 +58,7 @@ impl Row for FlowRow {
 
 // [counters], and the symbol behind it
 fn maybe_counters<'a, 't>(desk: &mut Desk<'a, 't>, first: Found) -> Result<Found, LoadFault>
-    ensures { MayRead (λ text d. optional kw.Counters d (counters_in text d) first) (λ next. (rows desk.new, next)) desk.old desk.new result }
+    ensures { MayProduce (λ text d. optional kw.Counters d (counters_in text d) first) (λ next. (rows desk.new, next)) desk.old desk.new result }
 {
     if !first.is_keyword(Keyword::Counters) {
         return Ok(first);
@@ -83,7 +83,7 @@ fn main_name<'a>(r: &mut Reader<'a>, text: &[u8], t: &Tables) -> Result<usize, L
 
 // { MainFlow = name ; }
 fn main_flow<'a, 't>(desk: &mut Desk<'a, 't>) -> Result<(), LoadFault>
-    ensures { Reads main_in (λ _. rows desk.new) desk.old desk.new result }
+    ensures { Produces main_in (λ _. rows desk.new) desk.old desk.new result }
 {
     expect(&mut desk.reader, Symbol::Mark(Mark::OpenBrace))?;
     expect(&mut desk.reader, Symbol::Keyword(Keyword::MainFlow))?;
@@ -98,7 +98,7 @@ fn main_flow<'a, 't>(desk: &mut Desk<'a, 't>) -> Result<(), LoadFault>
 
 // flow+ FlowDefs { MainFlow = name ; } from the symbol that was read last
 fn flow_section<'a, 't>(desk: &mut Desk<'a, 't>, first: Found) -> Result<(), LoadFault>
-    ensures { Reads (λ text d. flows_in text (d, first)) (λ _. rows desk.new) desk.old desk.new result }
+    ensures { Produces (λ text d. flows_in text (d, first)) (λ _. rows desk.new) desk.old desk.new result }
 {
     let next = some_rows(&FlowRow, desk, first)?;
     next.must_be(Symbol::Keyword(Keyword::FlowDefs))?;
@@ -107,7 +107,7 @@ fn flow_section<'a, 't>(desk: &mut Desk<'a, 't>, first: Found) -> Result<(), Loa
 
 // [counters] test* flow+ FlowDefs { MainFlow = name ; }
 pub fn sections<'a, 't>(desk: &mut Desk<'a, 't>) -> Result<(), LoadFault>
-    ensures { Reads sections_in (λ _. rows desk.new) desk.old desk.new result }
+    ensures { Produces sections_in (λ _. rows desk.new) desk.old desk.new result }
 {
     let first = any_symbol(&mut desk.reader)?;
     let first = maybe_counters(desk, first)?;

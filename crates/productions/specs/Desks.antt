@@ -24,13 +24,13 @@ pub record Same (before after : Desk) : Type 0 where
   pub tables : after.tables.ghost_name ≡ before.tables.ghost_name
 
 -- the answer, seen so, and the tokens left are what the production gives; a token was read at least
-pub record Reads {X Y : Type 0} (production : List ℕ → Draft → Tokens → Loaded Y) (seen : X → Y) (before after : Desk) (answer : Result X LoadFault) : Type 0 where
+pub record Produces {X Y : Type 0} (production : List ℕ → Draft → Tokens → Loaded Y) (seen : X → Y) (before after : Desk) (answer : Result X LoadFault) : Type 0 where
   pub told : ended seen answer (unread after) ≡ production (text before) (rows before) (unread before)
   pub on : OnOk answer (count (unread after) < count (unread before))
   pub same : Same before after
 
 -- the same where it may be that no token was read
-pub record MayRead {X Y : Type 0} (production : List ℕ → Draft → Tokens → Loaded Y) (seen : X → Y) (before after : Desk) (answer : Result X LoadFault) : Type 0 where
+pub record MayProduce {X Y : Type 0} (production : List ℕ → Draft → Tokens → Loaded Y) (seen : X → Y) (before after : Desk) (answer : Result X LoadFault) : Type 0 where
   pub told : ended seen answer (unread after) ≡ production (text before) (rows before) (unread before)
   pub on : OnOk answer (count (unread after) ≤ count (unread before))
   pub same : Same before after

@@ -4,6 +4,7 @@ use Rattle.grammar.specs.Readers.{Spot}
 use Rattle.plan.specs.declared.rows.Flow.{Flow}
 use Rattle.plan.specs.declared.rows.Name.{Name}
 use Rattle.plan.specs.declared.rows.Test.{Test}
+use Rattle.plan.specs.Drafts.{Draft}
 use Rattle.names.specs.Names.{found}
 use Rattle.refusals.specs.declared.fault.RuleFault.{RuleFault}
 use Rattle.refusals.specs.declared.fault.RuleFault.TheVariants.{DeclaredBefore, NotDeclared}
@@ -27,3 +28,7 @@ declared_in named text rows w = row_or (found named text rows w.0) (NotDeclared 
 -- a test or a flow has this name; they share one set of names
 abbrev pub runnable_in : List ℕ → List Test → List Flow → List ℕ → Bool
 runnable_in text tests flows name = is_some (found (λ t. t.name) text tests name) || is_some (found (λ f. f.name) text flows name)
+
+-- a name that no test and no flow has yet
+abbrev pub fresh_runnable_in : List ℕ → Draft → Spot → Result Name RuleFault
+fresh_runnable_in text d w = cond (runnable_in text d.tests d.flows w.0) (Err (DeclaredBefore w.1)) (Ok (name_at w))

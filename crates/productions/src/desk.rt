@@ -3,8 +3,8 @@
 use plan::Tables;
 use tokens::Reader;
 
-// Names of rows are parts of the text, so it lies beside the tables. What only looks at tables is lent the reader and the
-// tables apart, and so need not say that they stay.
+// Names of rows are parts of the text, so it lies beside the tables. A function that only looks at the tables takes reader and
+// tables as two arguments; its contract then need not say that they are unchanged.
 #[derive(Drop)]
 pub struct Desk<'a, 't> {
     pub reader: Reader<'a>,

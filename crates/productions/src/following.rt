@@ -5,7 +5,7 @@ ghost use Rattle.tokens.specs.Terminals.{Tokens};
 ghost use Rattle.grammar.specs.declared.symbols.Found.{Found};
 ghost use Rattle.plan.specs.Drafts.{Draft};
 ghost use Rattle.refusals.specs.Steps.{Loaded};
-ghost use Rattle.productions.specs.Desks.{Reads, MayRead, rows};
+ghost use Rattle.productions.specs.Desks.{Produces, MayProduce, rows};
 ghost use Rattle.productions.specs.Following.{rows_in, some_rows_in, braced_in};
 
 use crate::desk::Desk;
@@ -13,6 +13,7 @@ use grammar::{Found, GrammarFault, Symbol, any_symbol, expect};
 use refusals::LoadFault;
 use text_bytes::Mark;
 
+// How a row is read: which symbols begin one, and what stands behind the symbol.
 pub trait Row {
     // Whether the symbol read last begins a row.
     ghost begins: { Self → Found → Bool };
@@ -24,7 +25,7 @@ pub trait Row {
         ensures { result ≡ begins self.now next };
 
     fn read<'a, 't>(&self, desk: &mut Desk<'a, 't>, next: Found) -> Result<(), LoadFault>
-        ensures { Reads (production self.now next) (λ _. rows desk.new) desk.old desk.new result };
+        ensures { Produces (production self.now next) (λ _. rows desk.new) desk.old desk.new result };
 }
 
 // Rows as long as the symbol read last begins one, and the symbol behind them.
@@ -33,7 +34,7 @@ pub fn rows<'a, 't, R: Row>(
     desk: &mut Desk<'a, 't>,
     first: Found,
 ) -> Result<Found, LoadFault>
-    ensures { MayRead (rows_in (R.begins row.now) (R.production row.now) first) (λ next. (rows desk.new, next)) desk.old desk.new result }
+    ensures { MayProduce (rows_in (R.begins row.now) (R.production row.now) first) (λ next. (rows desk.new, next)) desk.old desk.new result }
 {
     let mut next = first;
     while row.begins(next) {
@@ -49,7 +50,7 @@ pub fn some_rows<'a, 't, R: Row>(
     desk: &mut Desk<'a, 't>,
     first: Found,
 ) -> Result<Found, LoadFault>
-    ensures { MayRead (some_rows_in (R.begins row.now) (R.production row.now) first) (λ next. (rows desk.new, next)) desk.old desk.new result }
+    ensures { MayProduce (some_rows_in (R.begins row.now) (R.production row.now) first) (λ next. (rows desk.new, next)) desk.old desk.new result }
 {
     if !row.begins(first) {
         return Err(GrammarFault::NotAllowed(first.place).into());
@@ -59,7 +60,7 @@ pub fn some_rows<'a, 't, R: Row>(
 
 // { row row .. }
 pub fn braced<'a, 't, R: Row>(row: &R, desk: &mut Desk<'a, 't>) -> Result<(), LoadFault>
-    ensures { Reads (braced_in (R.begins row.now) (R.production row.now)) (λ _. rows desk.new) desk.old desk.new result }
+    ensures { Produces (braced_in (R.begins row.now) (R.production row.now)) (λ _. rows desk.new) desk.old desk.new result }
 {
     expect(&mut desk.reader, Symbol::Mark(Mark::OpenBrace))?;
     let first = any_symbol(&mut desk.reader)?;

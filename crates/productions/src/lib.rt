@@ -4,10 +4,12 @@
 
 mod desk;
 mod following;
+mod limits;
 mod lists;
 mod naming;
 
 pub use desk::Desk;
 pub use following::{Row, braced, rows, some_rows};
+pub use limits::room;
 pub use lists::{Entry, another, list};
-pub use naming::{declared, fresh, is_runnable, named};
+pub use naming::{declared, fresh, fresh_runnable, name_of};

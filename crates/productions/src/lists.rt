@@ -6,7 +6,7 @@ ghost use Rattle.grammar.specs.Readers.{Takes};
 ghost use Rattle.plan.specs.Drafts.{Draft};
 ghost use Rattle.refusals.specs.Shapes.{another_in};
 ghost use Rattle.refusals.specs.Steps.{Loaded};
-ghost use Rattle.productions.specs.Desks.{Reads, rows};
+ghost use Rattle.productions.specs.Desks.{Produces, rows};
 ghost use Rattle.productions.specs.Following.{list_in};
 
 use crate::desk::Desk;
@@ -15,14 +15,15 @@ use refusals::LoadFault;
 use text_bytes::Mark;
 use tokens::Reader;
 
+// How an entry of a list is read.
 pub trait Entry {
     ghost production: { Self → List ℕ → Draft → Tokens → Loaded Draft };
 
     fn read<'a, 't>(&self, desk: &mut Desk<'a, 't>) -> Result<(), LoadFault>
-        ensures { Reads (production self.now) (λ _. rows desk.new) desk.old desk.new result };
+        ensures { Produces (production self.now) (λ _. rows desk.new) desk.old desk.new result };
 }
 
-// Whether a comma stands here, so that another entry follows, or the last mark.
+// Whether a comma stands here, so that another entry follows, or the mark that ends the list, so that none does.
 pub fn another<'a>(r: &mut Reader<'a>, last: Mark) -> Result<bool, GrammarFault>
     ensures { Takes (another_in last) (λ more. more) r.old r.new result }
 {
@@ -42,7 +43,7 @@ pub fn list<'a, 't, E: Entry>(
     desk: &mut Desk<'a, 't>,
     last: Mark,
 ) -> Result<(), LoadFault>
-    ensures { Reads (list_in last (E.production entry.now)) (λ _. rows desk.new) desk.old desk.new result }
+    ensures { Produces (list_in last (E.production entry.now)) (λ _. rows desk.new) desk.old desk.new result }
 {
     loop {
         entry.read(desk)?;
