@@ -1,5 +1,5 @@
 -- The reader's answers, seen without the addresses of the parts that they borrow.
-use Rattle.std.specs.Prelude.{◌≡◌, ℕ, ◌<◌, ◌≤◌, Ok, Err, Result}
+use Rattle.std.specs.Prelude.{◌≡◌, ℕ, ◌<◌, ◌≤◌, List, length, Ok, Err, Result}
 use Rattle.tokens.specs.declared.fault.TokenFault.{TokenFault}
 use Rattle.tokens.specs.declared.token.Token.{Token}
 use Rattle.tokens.specs.declared.token.Token.TheVariants as code
@@ -26,3 +26,8 @@ abbrev pub Forward : ℕ → ℕ → Scanned → Type 0
 Forward p n (found x q e) = (p ≤ q) × (q < e) × (e ≤ n)
 Forward p n (finished q e) = (q ≡ n) × (e ≡ n)
 Forward p n (faulty e) = (p ≤ (told e).place) × ((told e).place ≤ n)
+
+-- the answer for offset p of the text is the given one, and it goes forward
+pub record Scans (gives : Scanned) (text : List ℕ) (p : ℕ) (answer : Result Placed TokenFault) : Type 0 where
+  pub told : seen answer ≡ gives
+  pub forward : Forward p (length text) (seen answer)

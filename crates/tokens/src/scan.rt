@@ -4,7 +4,7 @@ ghost use Rattle.std.specs.Prelude.{◌≡◌, ℕ, ◌+◌, ◌<◌, ◌≤◌,
 ghost use Rattle.text_bytes.specs.declared.kinds.ByteKind.TheVariants.{OfName, OfNumber, OfString};
 ghost use Rattle.tokens.specs.Scanning.{part, run_end, word_to, number_to, decimal_to, digits_to, string_to, token_at};
 ghost use Rattle.tokens.specs.declared.fault.TokenFault.TheVariants.{TooLong};
-ghost use Rattle.tokens.specs.Answers.{seen, Forward};
+ghost use Rattle.tokens.specs.Answers.{Scans};
 
 use crate::fault::TokenFault;
 use crate::token::{Placed, Token};
@@ -31,8 +31,7 @@ fn measured<'a>(text: &'a [u8], at: usize, end: usize) -> Result<&'a [u8], Token
 
 fn word<'a>(text: &'a [u8], at: usize) -> Result<Placed<'a>, TokenFault>
     requires { at < length text.now }
-    ensures told { seen result ≡ word_to text.now at (run_end text.now (at + 1) OfName) }
-    ensures forward { Forward at (length text.now) (seen result) }
+    ensures { Scans (word_to text.now at (run_end text.now (at + 1) OfName)) text.now at result }
 {
     let end = run_end(text, at + 1, ByteKind::OfName);
     let bytes = measured(text, at, end)?;
@@ -49,8 +48,7 @@ fn word<'a>(text: &'a [u8], at: usize) -> Result<Placed<'a>, TokenFault>
 
 fn number<'a>(text: &'a [u8], at: usize, end: usize) -> Result<Placed<'a>, TokenFault>
     requires { (at < end) × (end ≤ length text.now) }
-    ensures told { seen result ≡ number_to text.now at end }
-    ensures forward { Forward at (length text.now) (seen result) }
+    ensures { Scans (number_to text.now at end) text.now at result }
 {
     let bytes = measured(text, at, end)?;
     let n = number_of(bytes).ok_or(TokenFault::TooLong(at))?;
@@ -63,8 +61,7 @@ fn number<'a>(text: &'a [u8], at: usize, end: usize) -> Result<Placed<'a>, Token
 
 fn decimal<'a>(text: &'a [u8], at: usize, end: usize) -> Result<Placed<'a>, TokenFault>
     requires { (at < end) × (end ≤ length text.now) }
-    ensures told { seen result ≡ decimal_to text.now at end }
-    ensures forward { Forward at (length text.now) (seen result) }
+    ensures { Scans (decimal_to text.now at end) text.now at result }
 {
     let bytes = measured(text, at, end)?;
     Ok(Placed {
@@ -76,8 +73,7 @@ fn decimal<'a>(text: &'a [u8], at: usize, end: usize) -> Result<Placed<'a>, Toke
 
 fn digits<'a>(text: &'a [u8], at: usize) -> Result<Placed<'a>, TokenFault>
     requires { at < length text.now }
-    ensures told { seen result ≡ digits_to text.now at (run_end text.now (at + 1) OfNumber) }
-    ensures forward { Forward at (length text.now) (seen result) }
+    ensures { Scans (digits_to text.now at (run_end text.now (at + 1) OfNumber)) text.now at result }
 {
     let whole = run_end(text, at + 1, ByteKind::OfNumber);
     match &text[whole..] {
@@ -90,31 +86,27 @@ fn digits<'a>(text: &'a [u8], at: usize) -> Result<Placed<'a>, TokenFault>
 
 fn string<'a>(text: &'a [u8], at: usize) -> Result<Placed<'a>, TokenFault>
     requires { at < length text.now }
-    ensures told { seen result ≡ string_to text.now at (run_end text.now (at + 1) OfString) }
-    ensures forward { Forward at (length text.now) (seen result) }
+    ensures { Scans (string_to text.now at (run_end text.now (at + 1) OfString)) text.now at result }
 {
     let end = run_end(text, at + 1, ByteKind::OfString);
     if end - (at + 1) > LONGEST_STRING {
         return Err(TokenFault::TooLong(at));
     }
-    if end >= text.len() || text[end] == b'\n' {
-        return Err(TokenFault::OpenString(at));
+    match text.get(end) {
+        None | Some(b'\n') => Err(TokenFault::OpenString(at)),
+        Some(b'"') => Ok(Placed {
+            token: Token::Quoted(&text[at + 1..end]),
+            place: at,
+            end: end + 1,
+        }),
+        Some(_) => Err(TokenFault::ByteInString(end)),
     }
-    if text[end] != b'"' {
-        return Err(TokenFault::ByteInString(end));
-    }
-    Ok(Placed {
-        token: Token::Quoted(&text[at + 1..end]),
-        place: at,
-        end: end + 1,
-    })
 }
 
 // The token that begins at an offset where no gap does.
 pub fn token_at<'a>(text: &'a [u8], at: usize) -> Result<Placed<'a>, TokenFault>
     requires { at ≤ length text.now }
-    ensures told { seen result ≡ token_at text.now at }
-    ensures forward { Forward at (length text.now) (seen result) }
+    ensures { Scans (token_at text.now at) text.now at result }
 {
     let Some(&b) = text.get(at) else {
         return Ok(Placed {
