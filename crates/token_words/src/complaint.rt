@@ -11,6 +11,7 @@ pub struct TokenComplaint<'a> {
     pub at: Excerpt<'a>,
 }
 
+// What to mend in a token that is too long; one that is no word and no digits is a string.
 fn too_long(at: Excerpt<'_>) -> &'static str {
     match at {
         Excerpt::Word(_) => "this name has more than 32 bytes; shorten it",

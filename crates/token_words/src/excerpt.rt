@@ -6,7 +6,7 @@ ghost use Rattle.token_words.specs.Excerpt.{Stands};
 use std::fmt;
 use text_bytes::{ByteKind, begins_name, is_digit, run_end};
 
-// What stands at a place of the text; a string without its quotes.
+// What stands at a place of the text; a string is held without its quotes.
 #[derive(Clone, Copy)]
 pub enum Excerpt<'a> {
     Word(&'a str),
@@ -16,11 +16,12 @@ pub enum Excerpt<'a> {
     End,
 }
 
-fn as_text(bytes: &[u8]) -> &str {
+// The bytes as text, or no text where they are not UTF-8.
+pub fn as_text(bytes: &[u8]) -> &str {
     std::str::from_utf8(bytes).unwrap_or("")
 }
 
-// The bytes of a kind that the text begins with.
+// The longest run of bytes of a kind that the text begins with.
 fn front(text: &[u8], kind: ByteKind) -> &str {
     as_text(&text[..run_end(text, 0, kind)])
 }

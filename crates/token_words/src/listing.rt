@@ -3,6 +3,7 @@
 ghost use Rattle.std.specs.Prelude.{IfOk};
 ghost use Rattle.token_words.specs.Listing.{EndsAs};
 
+use crate::excerpt::as_text;
 use std::{fmt, io};
 use tokens::{Placed, Reader, Token, TokenFault};
 
@@ -30,12 +31,11 @@ impl fmt::Display for Listed<'_> {
         let Placed { token, place, end } = self.placed;
         let kind = kind_of(token);
         let bytes = self.text.get(place..end).unwrap_or(&[]);
-        let word = std::str::from_utf8(bytes).unwrap_or("");
-        write!(f, "{place} {kind} {word}")
+        write!(f, "{place} {kind} {}", as_text(bytes))
     }
 }
 
-// Prints the tokens up to the end of the text, and then how many they are; or up to the first fault, which is answered.
+// Prints the tokens up to the end of the text, and then how many they are; or up to the first fault, which is returned.
 pub fn print_tokens(rt: &impl Print, path: &str, text: &[u8]) -> io::Result<Result<(), TokenFault>>
     ensures { IfOk result (EndsAs text.now) }
 {
