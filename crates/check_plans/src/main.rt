@@ -14,6 +14,13 @@ use std::process::ExitCode;
 use std::{env, fs, io};
 use token_words::print_tokens;
 
+// What is wanted of a file.
+#[derive(Clone, Copy, PartialEq, Eq)]
+enum Task {
+    Check,
+    ListTokens,
+}
+
 // Says what an accepted plan holds.
 fn check_plan(rt: &HostRuntime, path: &str, text: &[u8]) -> anyhow::Result<Result<(), LoadFault>> {
     let mut loader = Loader::new(rt.alloc())?;
@@ -27,11 +34,11 @@ fn check_plan(rt: &HostRuntime, path: &str, text: &[u8]) -> anyhow::Result<Resul
 
 fn list_tokens(rt: &HostRuntime, path: &str, text: &[u8]) -> io::Result<Result<(), LoadFault>> {
     let listed = print_tokens(rt, path, text)?;
-    Ok(listed.map_err(|fault| LoadFault::Grammar(GrammarFault::Token(fault))))
+    Ok(listed.map_err(|fault| GrammarFault::from(fault).into()))
 }
 
-// Whether the file could be read, and is a plan, or where its tokens are to be listed has well-formed ones.
-fn look_at(rt: &HostRuntime, path: &str, lists_tokens: bool) -> anyhow::Result<bool> {
+// Whether the file could be read and is a plan, or, where its tokens are to be listed, has well-formed tokens only.
+fn look_at(rt: &HostRuntime, path: &str, task: Task) -> anyhow::Result<bool> {
     let text = match fs::read(rt, path) {
         Ok(text) => text,
         Err(e) => {
@@ -39,10 +46,9 @@ fn look_at(rt: &HostRuntime, path: &str, lists_tokens: bool) -> anyhow::Result<b
             return Ok(false);
         }
     };
-    let outcome = if lists_tokens {
-        list_tokens(rt, path, text.as_slice())?
-    } else {
-        check_plan(rt, path, text.as_slice())?
+    let outcome = match task {
+        Task::Check => check_plan(rt, path, text.as_slice())?,
+        Task::ListTokens => list_tokens(rt, path, text.as_slice())?,
     };
     if let Err(fault) = outcome {
         println!(rt; "{path}:{}", Complaint::new(text.as_slice(), fault))?;
@@ -56,12 +62,12 @@ fn run(rt: &HostRuntime) -> anyhow::Result<ExitCode> {
         eprintln!(rt; "usage: check_plans [--tokens] FILE..")?;
         return Ok(ExitCode::FAILURE);
     }
-    let mut lists_tokens = false;
+    let mut task = Task::Check;
     let mut code = ExitCode::SUCCESS;
     for arg in args.iter() {
         if arg.as_str() == "--tokens" {
-            lists_tokens = true;
-        } else if !look_at(rt, arg.as_str(), lists_tokens)? {
+            task = Task::ListTokens;
+        } else if !look_at(rt, arg.as_str(), task)? {
             code = ExitCode::FAILURE;
         }
     }
