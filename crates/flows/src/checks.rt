@@ -85,42 +85,49 @@ fn word_at(text: &[u8], place: usize) -> &[u8]
     &from[..run_end(from, 0, ByteKind::OfName)]
 }
 
-#[tactic(auto, using(names::proofs::Found::found_below))]
-fn resolve_next(text: &[u8], first: usize, items: &[Item], next: Next) -> Result<Next, LoadFault>
-    requires { first + length items.now ≤ 512 }
-    ensures { result ≡ next_resolved text.now first items.now next }
-{
-    match next {
-        Next::GoTo(place) => match find(items, text, word_at(text, place)) {
-            Some(k) => Ok(Next::GoTo(first + k)),
-            None => Err(RuleFault::NotDeclared(place).into()),
-        },
-        Next::Return(v) => Ok(Next::Return(v)),
-    }
+// The items that a GoTo of a flow can lead to: those from the row `first` on, and the text that names them.
+#[derive(Clone, Copy)]
+pub struct Targets<'a> {
+    pub text: &'a [u8],
+    pub first: usize,
+    pub items: &'a [Item],
+    ghost few: { first + length items.now ≤ 512 },
 }
 
-fn resolve_clause(text: &[u8], first: usize, items: &[Item], c: Clause) -> Result<Clause, LoadFault>
-    requires { first + length items.now ≤ 512 }
-    ensures { result ≡ clause_resolved text.now first items.now c }
-{
-    let next = resolve_next(text, first, items, c.next)?;
-    Ok(Clause { next, ..c })
-}
-
-// Every GoTo of the clauses from a row on leads to the item that is named at its place, or the first that does not is told.
-pub fn resolve(
-    text: &[u8],
-    first: usize,
-    items: &[Item],
-    from: usize,
-    clauses: &mut Table<Clause, MOST_CLAUSES>,
-) -> Result<(), LoadFault>
-    requires { first + length items.now ≤ 512 }
-    ensures { become result clauses.new ≡ resolved_from text.now first items.now from clauses.old }
-{
-    for i in from..clauses.len() {
-        let row = resolve_clause(text, first, items, clauses.as_slice()[i])?;
-        clauses.set(i, row);
+impl<'a> Targets<'a> {
+    // The item that is named at the place of a GoTo.
+    #[tactic(auto, using(names::proofs::Found::found_below))]
+    fn next(&self, next: Next) -> Result<Next, LoadFault>
+        ensures { result ≡ next_resolved self.now.text.now self.now.first self.now.items.now next }
+    {
+        match next {
+            Next::GoTo(place) => match find(self.items, self.text, word_at(self.text, place)) {
+                Some(k) => Ok(Next::GoTo(self.first + k)),
+                None => Err(RuleFault::NotDeclared(place).into()),
+            },
+            Next::Return(v) => Ok(Next::Return(v)),
+        }
     }
-    Ok(())
+
+    fn clause(&self, c: Clause) -> Result<Clause, LoadFault>
+        ensures { result ≡ clause_resolved self.now.text.now self.now.first self.now.items.now c }
+    {
+        let next = self.next(c.next)?;
+        Ok(Clause { next, ..c })
+    }
+
+    // Every GoTo of the clauses from a row on leads to the item that is named at its place, or the first that does not is told.
+    pub fn resolve(
+        &self,
+        from: usize,
+        clauses: &mut Table<Clause, MOST_CLAUSES>,
+    ) -> Result<(), LoadFault>
+        ensures { become result clauses.new ≡ resolved_from self.now.text.now self.now.first self.now.items.now from clauses.old }
+    {
+        for i in from..clauses.len() {
+            let row = self.clause(clauses.as_slice()[i])?;
+            clauses.set(i, row);
+        }
+        Ok(())
+    }
 }

@@ -8,7 +8,7 @@ ghost use Rattle.productions.specs.Desks.{Produces, rows};
 ghost use Rattle.flows.specs.Checks.{deepest, become};
 ghost use Rattle.flows.specs.Flows.{item_in, items_in, closed, flow_in};
 
-use crate::checks::{deepest_run, resolve, rows_from};
+use crate::checks::{Targets, deepest_run, rows_from};
 use crate::items::item;
 use grammar::{Found, name};
 use keywords::Keyword;
@@ -59,7 +59,8 @@ fn close_flow(
     ensures { become result (drafted t.new) ≡ closed text.now name first from (drafted t.old) }
 {
     let items = rows_from(t.items.as_slice(), first);
-    resolve(text, first, items, from, &mut t.clauses)?;
+    let targets = Targets { text, first, items };
+    targets.resolve(from, &mut t.clauses)?;
     let depth = 1 + deepest_run(items, t.flows.as_slice());
     let items = Span {
         from: first,

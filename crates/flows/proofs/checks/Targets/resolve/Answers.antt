@@ -1,7 +1,7 @@
 use Rattle.std.proofs.Common.{◌<◌, length, arith}
 use Rattle.std.proofs.lemmas.Result.{err_from_is_err_and}
 use Rattle.flows.proofs.Resolving.{resolved_one, resolved_none, resolved_all}
-use Rattle.flows.proofs.checks.resolve.Goals as goal
+use Rattle.flows.proofs.checks.Targets.resolve.Goals as goal
 
 pub loop-i-preserved : goal.loop-i-preserved
 loop-i-preserved c =
