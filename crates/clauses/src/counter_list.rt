@@ -7,6 +7,7 @@ ghost use Rattle.clauses.specs.Clauses.{mention_in, mentions_in, counters_in};
 
 use grammar::{Found, any_symbol, name};
 use keywords::Keyword;
+use plan::rows_from;
 use productions::{Desk, Entry, declared, list, room};
 use refusals::{LoadFault, RuleFault};
 use text_bytes::Mark;
@@ -15,7 +16,7 @@ use text_bytes::Mark;
 fn names_counter(mentions: &[usize], from: usize, counter: usize) -> bool
     ensures { result ≡ among (λ k. k) counter (drop from mentions.now) }
 {
-    mentions.iter().skip(from).any(|k| *k == counter)
+    rows_from(mentions, from).contains(&counter)
 }
 
 // The name of a counter, named once by the clause whose mentions begin at the row `from`.

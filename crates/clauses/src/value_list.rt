@@ -9,7 +9,7 @@ ghost use Rattle.clauses.specs.Parts.{among};
 ghost use Rattle.clauses.specs.Clauses.{start_in, listed_in, values_in};
 
 use grammar::{ValueStart, value_start};
-use plan::{Tables, Value};
+use plan::{Tables, Value, rows_from};
 use productions::{Desk, Entry, list, room};
 use refusals::{LoadFault, RuleFault};
 use text_bytes::Mark;
@@ -32,7 +32,7 @@ fn start<'a>(r: &mut Reader<'a>, t: &Tables) -> Result<ValueStart, LoadFault>
 fn lists_value(values: &[Value], first: usize, value: Value) -> bool
     ensures { result ≡ among code_of value.code (drop first values.now) }
 {
-    values.iter().skip(first).any(|v| v.code == value.code)
+    rows_from(values, first).contains(&value)
 }
 
 // A value, listed once by the item whose values begin at the row `first`.

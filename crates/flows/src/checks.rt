@@ -1,20 +1,13 @@
 // What is checked of a whole item and a whole flow.
 
-ghost use Rattle.std.specs.Prelude.{◌≡◌, ℕ, ◌+◌, ◌≤◌, map, length, drop};
+ghost use Rattle.std.specs.Prelude.{◌≡◌, ℕ, ◌+◌, ◌≤◌, map, length};
 ghost use Rattle.std.specs.List.{slice_get};
 ghost use Rattle.flows.specs.Checks.{return_listed, clauses_listed, items_listed, flow_items, depth_in, depth_of, deepest, word_at, next_resolved, clause_resolved, resolved_from, become};
 
 use names::find;
-use plan::{Clause, Flow, Item, MOST_CLAUSES, Next, Runs, Table, Value, lists};
+use plan::{Clause, Flow, Item, MOST_CLAUSES, Next, Runs, Table, Value, lists, rows_from};
 use refusals::{LoadFault, RuleFault};
 use text_bytes::{ByteKind, run_end};
-
-// The rows from one on.
-pub fn rows_from<T>(rows: &[T], from: usize) -> &[T]
-    ensures { result.now ≡ drop from rows.now }
-{
-    rows.get(from..).unwrap_or_default()
-}
 
 // The items of a flow.
 pub fn items_of<'a>(flows: &[Flow], items: &'a [Item], f: usize) -> &'a [Item]

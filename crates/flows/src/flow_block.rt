@@ -8,11 +8,11 @@ ghost use Rattle.productions.specs.Desks.{Produces, rows};
 ghost use Rattle.flows.specs.Checks.{deepest, become};
 ghost use Rattle.flows.specs.Flows.{item_in, items_in, closed, flow_in};
 
-use crate::checks::{Targets, deepest_run, rows_from};
+use crate::checks::{Targets, deepest_run};
 use crate::items::item;
 use grammar::{Found, name};
 use keywords::Keyword;
-use plan::{Flow, Name, Span, Tables};
+use plan::{Flow, Name, Span, Tables, rows_from};
 use productions::{Desk, Row, braced, fresh_runnable, room};
 use refusals::LoadFault;
 

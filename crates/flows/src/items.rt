@@ -9,12 +9,12 @@ ghost use Rattle.productions.specs.Desks.{Produces, rows};
 ghost use Rattle.clauses.specs.Clauses.{clause_in};
 ghost use Rattle.flows.specs.Flows.{clauses_in, runs_in, run_listed, item_in};
 
-use crate::checks::{depth_at, items_listed, items_of, rows_from};
+use crate::checks::{depth_at, items_listed, items_of};
 use clauses::clause;
 use grammar::{Found, name};
 use keywords::Keyword;
 use names::find;
-use plan::{Item, Runs, Span, Tables};
+use plan::{Item, Runs, Span, Tables, rows_from};
 use productions::{Desk, Row, braced, declared, fresh, room};
 use refusals::{LoadFault, RuleFault};
 use tokens::Reader;

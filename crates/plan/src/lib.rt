@@ -19,4 +19,4 @@ pub use tables::{
     MOST_BINS, MOST_CLAUSES, MOST_COUNTERS, MOST_FLOWS, MOST_GROUPS, MOST_ITEMS, MOST_MENTIONS,
     MOST_TESTS, MOST_VALUES, Tables,
 };
-pub use values::{OutOfRange, lists};
+pub use values::{OutOfRange, lists, rows_from};

@@ -1,6 +1,6 @@
 // Result values, from the signed number and back, and among others.
 
-ghost use Rattle.std.specs.Prelude.{◌≡◌, map};
+ghost use Rattle.std.specs.Prelude.{◌≡◌, map, drop};
 ghost use Rattle.std.specs.Result.{result_ok};
 ghost use Rattle.plan.specs.Meaning.{code_of, lists};
 ghost use Rattle.plan.specs.Values.{value_of, signed_of};
@@ -40,4 +40,11 @@ pub fn lists(values: &[Value], value: Value) -> bool
     ensures { result ≡ lists value.code (map code_of values.now) }
 {
     values.contains(&value)
+}
+
+// The rows from one on.
+pub fn rows_from<T>(rows: &[T], from: usize) -> &[T]
+    ensures { result.now ≡ drop from rows.now }
+{
+    rows.get(from..).unwrap_or_default()
 }

@@ -1,5 +1,6 @@
 -- Names that are declared, and names that were declared before.
 use Rattle.std.specs.Prelude.{ℕ, Bool, cond, ◌||◌, List, length, is_some, Some, None, Ok, Err, Option, Result}
+use Rattle.std.specs.Option.{ok_or}
 use Rattle.grammar.specs.Readers.{Spot}
 use Rattle.plan.specs.declared.rows.Flow.{Flow}
 use Rattle.plan.specs.declared.rows.Name.{Name}
@@ -17,13 +18,9 @@ name_at w = record { place = w.1; len = length w.0 }
 abbrev pub fresh_in : {R : Type 0} → (R → Name) → List ℕ → List R → Spot → Result Name RuleFault
 fresh_in named text rows w = cond (is_some (found named text rows w.0)) (Err (DeclaredBefore w.1)) (Ok (name_at w))
 
-abbrev pub row_or : Option ℕ → RuleFault → Result ℕ RuleFault
-row_or (Some i) e = Ok i
-row_or None e = Err e
-
 -- the number of the row that has the name
 abbrev pub declared_in : {R : Type 0} → (R → Name) → List ℕ → List R → Spot → Result ℕ RuleFault
-declared_in named text rows w = row_or (found named text rows w.0) (NotDeclared w.1)
+declared_in named text rows w = ok_or (found named text rows w.0) (NotDeclared w.1)
 
 -- a test or a flow has this name; they share one set of names
 abbrev pub runnable_in : List ℕ → List Test → List Flow → List ℕ → Bool

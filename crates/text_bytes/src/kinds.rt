@@ -26,20 +26,20 @@ pub enum ByteKind {
 pub fn is_blank(b: u8) -> bool
     ensures { result ≡ blank b }
 {
-    b == b' ' || b == b'\t' || b == b'\r' || b == b'\n'
+    matches!(b, b' ' | b'\t' | b'\r' | b'\n')
 }
 
 // A letter or an underscore.
 pub fn begins_name(b: u8) -> bool
     ensures { result ≡ letter b }
 {
-    b == b'_' || (b'a' <= b && b <= b'z') || (b'A' <= b && b <= b'Z')
+    b == b'_' || b.is_ascii_alphabetic()
 }
 
 pub fn is_digit(b: u8) -> bool
     ensures { result ≡ digit b }
 {
-    b'0' <= b && b <= b'9'
+    b.is_ascii_digit()
 }
 
 pub fn is_of_kind(kind: ByteKind, b: u8) -> bool
