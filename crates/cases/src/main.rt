@@ -14,7 +14,8 @@ use std::fs;
 use trial::Bench;
 
 fn run(rt: &HostRuntime) -> anyhow::Result<()> {
-    let text = fs::read_to_string(rt, "cases.txt")?;
+    // Bytes that are not UTF-8 are told with their place, which `read_to_string` keeps to itself.
+    let text = String::from_utf8(fs::read(rt, "cases.txt")?)?;
     let mut parts = text.as_str().split("\n~");
     let plan = parts.next().context("cases.txt has no plan")?;
     let mut bench = Bench::new(rt.alloc())?;

@@ -1,7 +1,7 @@
 // One case: the plan changed, loaded, and what came of it.
 
 use crate::expansion::push_expanded;
-use anyhow::{Context, bail};
+use anyhow::Context;
 use complaints::Accepted;
 use load::Loader;
 use plan::Plan;
@@ -27,15 +27,13 @@ fn replaced(heap: Global, text: &str, old: &str, new: &str) -> anyhow::Result<St
     Ok(out)
 }
 
-// label|old|new|old|new ..: the label, and the plan with each old text replaced by the new one
+// label|old|new|old|new ..: the label, and the plan with each old text replaced by the new one; no more than two parts are held
 fn changed<'a>(heap: Global, plan: &str, case: &'a str) -> anyhow::Result<(&'a str, String)> {
-    let parts: Vec<&str> = case.split('|').collect(heap)?;
-    let (label, changes) = parts.split_first().context("a case has no label")?;
+    let mut parts = case.split('|');
+    let label = parts.next().context("a case has no label")?;
     let mut text = String::from_str(heap, plan)?;
-    for change in changes.chunks(2) {
-        let [old, new] = change else {
-            bail!("a case has no new text");
-        };
+    while let Some(old) = parts.next() {
+        let new = parts.next().context("a case has no new text")?;
         text = replaced(heap, text.as_str(), old, new)?;
     }
     Ok((label, text))

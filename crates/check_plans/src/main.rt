@@ -57,21 +57,24 @@ fn look_at(rt: &HostRuntime, path: &str, task: Task) -> anyhow::Result<bool> {
 }
 
 fn run(rt: &HostRuntime) -> anyhow::Result<ExitCode> {
-    let args: Vec<String> = env::args(rt)?.skip(1).collect(rt.alloc())?;
-    if args.iter().all(|arg| arg.as_str() == "--tokens") {
-        eprintln!(rt; "usage: check_plans [--tokens] FILE..")?;
-        return Ok(ExitCode::FAILURE);
-    }
     let mut task = Task::Check;
-    let mut code = ExitCode::SUCCESS;
-    for arg in args.iter() {
+    // whether all is well with the files so far; none where no file is named
+    let mut well: Option<bool> = None;
+    for arg in env::args(rt)?.skip(1) {
         if arg.as_str() == "--tokens" {
             task = Task::ListTokens;
-        } else if !look_at(rt, arg.as_str(), task)? {
-            code = ExitCode::FAILURE;
+        } else {
+            well = Some(look_at(rt, arg.as_str(), task)? && well.unwrap_or(true));
         }
     }
-    Ok(code)
+    match well {
+        Some(true) => Ok(ExitCode::SUCCESS),
+        Some(false) => Ok(ExitCode::FAILURE),
+        None => {
+            eprintln!(rt; "usage: check_plans [--tokens] FILE..")?;
+            Ok(ExitCode::FAILURE)
+        }
+    }
 }
 
 fn main(rt: HostRuntime) -> anyhow::Result<ExitCode> {

@@ -43,7 +43,8 @@ impl Entry for Mention {
 
 // name (, name)* ;
 fn mentions<'a, 't>(desk: &mut Desk<'a, 't>) -> Result<(), LoadFault>
-    ensures { Produces (λ text d. mentions_in text (length d.mentions) d) (λ _. rows desk.new) desk.old desk.new result }
+    ensures made { Produces (λ text d. mentions_in text (length d.mentions) d) (λ _. rows desk.new) desk.old desk.new result }
+    ensures kept { (rows desk.new).clauses ≡ (rows desk.old).clauses }
 {
     let t = &*desk.tables;
     let from = t.mentions.len();
@@ -52,7 +53,8 @@ fn mentions<'a, 't>(desk: &mut Desk<'a, 't>) -> Result<(), LoadFault>
 
 // [IncrementCounters name (, name)* ;] and the symbol behind it
 pub fn counters<'a, 't>(desk: &mut Desk<'a, 't>, next: Found) -> Result<Found, LoadFault>
-    ensures { MayProduce (λ text d. counters_in text d next) (λ next. (rows desk.new, next)) desk.old desk.new result }
+    ensures made { MayProduce (λ text d. counters_in text d next) (λ next. (rows desk.new, next)) desk.old desk.new result }
+    ensures kept { (rows desk.new).clauses ≡ (rows desk.old).clauses }
 {
     if !next.is_keyword(Keyword::IncrementCounters) {
         return Ok(next);

@@ -1,6 +1,6 @@
 // A clause whole.
 
-ghost use Rattle.std.specs.Prelude.{ℕ};
+ghost use Rattle.std.specs.Prelude.{◌≡◌, ℕ};
 ghost use Rattle.plan.specs.Drafts.{drafted};
 ghost use Rattle.refusals.specs.Steps.{Takes};
 ghost use Rattle.productions.specs.Desks.{Produces, rows};
@@ -35,7 +35,8 @@ fn end<'a>(
 
 // [Property ..] [IncrementCounters ..] [SetBin ..] (GoTo .. | Return ..) }, and the row of the clause that lists these values
 fn body<'a, 't>(desk: &mut Desk<'a, 't>, values: Span) -> Result<Clause, LoadFault>
-    ensures { Produces (λ text. body_in text values) (λ row. (rows desk.new, row)) desk.old desk.new result }
+    ensures made { Produces (λ text. body_in text values) (λ row. (rows desk.new, row)) desk.old desk.new result }
+    ensures kept { (rows desk.new).clauses ≡ (rows desk.old).clauses }
 {
     let t = &*desk.tables;
     let from = t.mentions.len();

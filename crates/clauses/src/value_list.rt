@@ -59,7 +59,8 @@ impl Entry for ListedValue {
 
 // value (, value)* {
 pub fn values<'a, 't>(desk: &mut Desk<'a, 't>, first: usize) -> Result<(), LoadFault>
-    ensures { Produces (λ _. values_in first) (λ _. rows desk.new) desk.old desk.new result }
+    ensures made { Produces (λ _. values_in first) (λ _. rows desk.new) desk.old desk.new result }
+    ensures kept { (rows desk.new).clauses ≡ (rows desk.old).clauses }
 {
     list(&ListedValue { first }, desk, Mark::OpenBrace)
 }

@@ -3,6 +3,7 @@
 #![tactic(auto)]
 
 ghost use Rattle.std.specs.Prelude.{◌≡◌};
+ghost use Rattle.std.specs.Str.{bytes_eq};
 ghost use Rattle.keywords.specs.Keywords.{spelt, keywords, first_spelt, keyword, Recognised};
 
 #[derive(Clone, Copy, PartialEq, Eq)]
@@ -82,11 +83,18 @@ impl Keyword {
     }
 }
 
+// Whether the word is spelt as the keyword is. A function of its own, not a part of the search: there it took twice the time.
+fn is_spelt(k: Keyword, word: &[u8]) -> bool
+    ensures { result ≡ bytes_eq word.now (spelt k) }
+{
+    word == k.spelling()
+}
+
 // The first of the keywords whose spelling the word is.
 fn first_spelt(keywords: &[Keyword], word: &[u8]) -> Option<Keyword>
     ensures { result ≡ first_spelt keywords.now word.now }
 {
-    keywords.iter().copied().find(|k| word == k.spelling())
+    keywords.iter().copied().find(|k| is_spelt(*k, word))
 }
 
 // The keyword that the word is spelt as.

@@ -1,6 +1,6 @@
 // Lists: entries with commas between them, and the mark that ends the list.
 
-ghost use Rattle.std.specs.Prelude.{ℕ, List};
+ghost use Rattle.std.specs.Prelude.{◌≡◌, ℕ, List};
 ghost use Rattle.tokens.specs.Terminals.{Tokens};
 ghost use Rattle.grammar.specs.Readers.{Takes};
 ghost use Rattle.plan.specs.Drafts.{Draft};
@@ -19,8 +19,10 @@ use tokens::Reader;
 pub trait Entry {
     ghost production: { Self → List ℕ → Draft → Tokens → Loaded Draft };
 
+    // No entry touches the clauses, refused or not.
     fn read<'a, 't>(&self, desk: &mut Desk<'a, 't>) -> Result<(), LoadFault>
-        ensures { Produces (production self.now) (λ _. rows desk.new) desk.old desk.new result };
+        ensures made { Produces (production self.now) (λ _. rows desk.new) desk.old desk.new result }
+        ensures kept { (rows desk.new).clauses ≡ (rows desk.old).clauses };
 }
 
 // Whether a comma stands here, so that another entry follows, or the mark that ends the list, so that none does.
@@ -43,7 +45,8 @@ pub fn list<'a, 't, E: Entry>(
     desk: &mut Desk<'a, 't>,
     last: Mark,
 ) -> Result<(), LoadFault>
-    ensures { Produces (list_in last (E.production entry.now)) (λ _. rows desk.new) desk.old desk.new result }
+    ensures made { Produces (list_in last (E.production entry.now)) (λ _. rows desk.new) desk.old desk.new result }
+    ensures kept { (rows desk.new).clauses ≡ (rows desk.old).clauses }
 {
     loop {
         entry.read(desk)?;

@@ -18,10 +18,12 @@ pub fn gap_end(text: &[u8], from: usize) -> usize
     for (i, b) in rest.iter().enumerate() {
         if comment {
             comment = *b != b'\n';
-        } else if *b == b'#' {
-            comment = true;
         } else if !is_blank(*b) {
-            return from + i;
+            // blanks are looked for first: most gaps have nothing else
+            if *b != b'#' {
+                return from + i;
+            }
+            comment = true;
         }
     }
     text.len()

@@ -1,4 +1,4 @@
-use Rattle.std.proofs.Common.{◌≤◌}
+use Rattle.std.proofs.Common.{◌≡◌, ◌≤◌}
 use Rattle.tokens.specs.Terminals.{count}
 use Rattle.refusals.proofs.Repeating.{Going}
 use Rattle.productions.specs.Desks.{Same, text, rows, unread}
@@ -13,6 +13,7 @@ invariant-loop-desk g l =
       going : Going (list_turn l.last (entry (text desk))) (rows l.desk) (unread l.desk) (list_in l.last entry (text desk) (rows desk) (unread desk));
       on : count (unread l.desk) ≤ count (unread desk);
       same : Same desk l.desk;
+      kept : (rows l.desk).clauses ≡ (rows desk).clauses;
     }
 
 abbrev pub decreases-loop-desk : goal.decreases-loop-desk
