@@ -1,32 +1,39 @@
 // Runs of bytes of one kind, gaps of blanks and comments, and the number that digits write.
 
-ghost use Rattle.std.specs.Prelude.{◌≡◌, ℕ, ◌+◌, ◌≤◌, false, length, drop};
+ghost use Rattle.std.specs.Prelude.{◌≡◌, ℕ, ◌+◌, ◌≤◌, true, false, length, drop};
 ghost use Rattle.std.specs.List.{prefix_len};
 ghost use Rattle.text_bytes.specs.Bytes.{of_kind, gap, number};
 
 use crate::kinds::{ByteKind, is_blank, is_of_kind};
+
+// How many bytes are left of a comment, with its line feed.
+fn comment_len(bytes: &[u8]) -> usize
+    ensures value { gap true bytes.now ≡ result + gap false (drop result bytes.now) }
+    ensures within { result ≤ length bytes.now }
+{
+    for (i, b) in bytes.iter().enumerate() {
+        if *b == b'\n' {
+            return i + 1;
+        }
+    }
+    bytes.len()
+}
 
 // Where the blanks and comments that begin at `from` end. A comment ends behind its line feed.
 pub fn gap_end(text: &[u8], from: usize) -> usize
     ensures value { result ≡ from + gap false (drop from text.now) }
     ensures bound { from ≤ length text.now → result ≤ length text.now }
 {
-    let Some(rest) = text.get(from..) else {
+    let Some(mut rest) = text.get(from..) else {
         return from;
     };
-    let mut comment = false;
-    for (i, b) in rest.iter().enumerate() {
-        if comment {
-            comment = *b != b'\n';
-        } else if !is_blank(*b) {
-            // blanks are looked for first: most gaps have nothing else
-            if *b != b'#' {
-                return from + i;
-            }
-            comment = true;
-        }
+    loop {
+        rest = match rest {
+            [b'#', behind @ ..] => &behind[comment_len(behind)..],
+            [b, behind @ ..] if is_blank(*b) => behind,
+            _ => return text.len() - rest.len(),
+        };
     }
-    text.len()
 }
 
 // How many bytes of a kind stand in front.
