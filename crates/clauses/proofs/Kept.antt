@@ -16,7 +16,6 @@ use Rattle.plan.specs.declared.rows.Bin.{Bin}
 use Rattle.plan.specs.declared.rows.Clause.{Clause}
 use Rattle.plan.specs.declared.rows.Next.{Next}
 use Rattle.plan.specs.declared.rows.Next.TheVariants.{GoTo, Return}
-use Rattle.plan.specs.declared.rows.Span.{Span}
 use Rattle.plan.specs.declared.rows.Value.{Value}
 use Rattle.plan.specs.Drafts.{Draft, with_clause}
 use Rattle.plan.specs.Meaning.{code_of}
@@ -314,16 +313,6 @@ row_added first d s e row room l some m values counters leaf returns =
       returns = returns;
       others = beside_then all (beside_clause row e);
     }
-
--- up to its own row a clause leaves the clauses alone
-pub clauses_left : (text : List ℕ) (first : ℕ) (d : Draft) (ts : Tokens) (s : Draft) (us : Tokens) → Ok (s, us) ≡ values_in first d ts → (values : Span) (e : Draft) (row : Clause) (vs : Tokens) → Ok ((e, row), vs) ≡ body_in text values s us → e.clauses ≡ d.clauses
-clauses_left text first d ts s us listed values e row vs h =
-    let f = parse_passed (symbol_in us) (sym h) in
-    let verdict = then_passed (verdict_in f.v f.us) f.goes in
-    let counters = then_passed (counters_in text s verdict.v.1 verdict.us) verdict.goes in
-    let end = then_passed (end_in text counters.v.0 counters.v.1 counters.us) counters.goes in
-    let mentioned = counters_mentioned text s verdict.v.1 verdict.us counters.v counters.us counters.is in
-    ap (λ (b : Draft × Clause). b.0.clauses) (sym (accepted end.goes).0) ∙ mentioned.clauses ∙ (values_listed first d ts s us (sym listed)).0.clauses
 
 pub clause_added : (text : List ℕ) (p first : ℕ) (d : Draft) (ts : Tokens) (e : Draft) (us : Tokens) → clause_in text p first d ts ≡ Ok (e, us) → ClauseAdded first d e
 unfolding clause_in

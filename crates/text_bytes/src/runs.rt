@@ -1,19 +1,21 @@
 // Runs of bytes of one kind, gaps of blanks and comments, and the number that digits write.
 
-ghost use Rattle.std.specs.Prelude.{◌≡◌, ℕ, ◌+◌, ◌≤◌, true, false, length, drop};
+ghost use Rattle.std.specs.Prelude.{◌≡◌, ℕ, ◌+◌, ◌≤◌, true, false, not, length, drop};
 ghost use Rattle.std.specs.List.{prefix_len};
 ghost use Rattle.text_bytes.specs.Bytes.{of_kind, gap, number};
+ghost use Rattle.text_bytes.specs.Position.{feed};
 
 use crate::kinds::{ByteKind, is_blank, is_of_kind};
 
-// How many bytes are left of a comment, with its line feed.
+// How many bytes are left of a comment in front of its line feed, which is a blank, or of the end.
 fn comment_len(bytes: &[u8]) -> usize
-    ensures value { gap true bytes.now ≡ result + gap false (drop result bytes.now) }
+    ensures value { result ≡ prefix_len (λ b. not (feed b)) bytes.now }
+    ensures behind { gap true bytes.now ≡ result + gap false (drop result bytes.now) }
     ensures within { result ≤ length bytes.now }
 {
     for (i, b) in bytes.iter().enumerate() {
         if *b == b'\n' {
-            return i + 1;
+            return i;
         }
     }
     bytes.len()
